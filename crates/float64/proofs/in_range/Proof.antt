@@ -1,0 +1,15 @@
+-- `float64::in_range` meets its contract, by its one test. Assumes nothing.
+use Rattle.float64.specs.Values.{inRange}
+use Rattle.float64.proofs.in_range.Statement.{statement}
+use Rattle.float64.proofs.in_range.Tie as tie
+
+returns : tie.Need-returns
+unfolding inRange
+returns c = rw (c .if1 .taken)
+
+returns-2 : tie.Need-returns-2
+unfolding inRange
+returns-2 c = rw (c .if1 .left)
+
+pub in-range-spec : {M : Type 1} → statement M
+in-range-spec = tie.close (tie.spec returns returns-2)

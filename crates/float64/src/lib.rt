@@ -13,21 +13,21 @@ pub fn tolerance() -> f64
 
 // The greatest magnitude of a network or raw reading: 10^12.
 pub fn raw_limit() -> f64
-    ensures { λ r. ⌜ r ≡ rawLimit ⌝ }
+    ensures { λ r. ⌜ (r ≡ rawLimit) × T (positive r) ⌝ }
 {
     1000000000000.0
 }
 
 // The greatest magnitude of a sheet reading or a solved column: 10^15.
 pub fn sheet_limit() -> f64
-    ensures { λ r. ⌜ r ≡ sheetLimit ⌝ }
+    ensures { λ r. ⌜ (r ≡ sheetLimit) × T (positive r) ⌝ }
 {
     1000000000000000.0
 }
 
 // The greatest magnitude in a parameter sheet: the double nearest to 10^60.
 pub fn parameter_limit() -> f64
-    ensures { λ r. ⌜ r ≡ parameterLimit ⌝ }
+    ensures { λ r. ⌜ (r ≡ parameterLimit) × T (positive r) ⌝ }
 {
     1000000000000000000000000000000000000000000000000000000000000.0
 }

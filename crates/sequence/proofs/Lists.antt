@@ -1,6 +1,7 @@
 -- The laws of what loops make: one turn more, turns that change nothing, equal turns. Assumes nothing.
 use mathlib.Core.Path.{_≡_, refl, sym, ap, _∙_, subst}
-use mathlib.Core.Bool.{Bool, true, false, _&&_, and-false}
+use mathlib.Core.Bool.{Bool, true, false, not, _&&_, and-false}
+use borrow.Author.Tests.{not-true, not-false}
 use mathlib.Core.List.{List, [], _∷_, _++_, append-nil, append-assoc}
 use mathlib.Core.Logic.{_⊎_, inl, inr, ⊎-elim}
 use Prim.Native.Nat.{ℕ, zero, suc, _+_, _-_, _*_, _≤_, _<_}
@@ -21,7 +22,18 @@ pub and-right : (a b : Bool) → a && b ≡ true → b ≡ true
 and-right true b q = q
 and-right false b q = absurd (subst T (sym q) tt)
 
+-- what a test of the code says of the definition that its answer equals
+pub failed : {r t : Bool} → r ≡ t → not r ≡ true → t ≡ false
+failed {r} e h = sym e ∙ not-true r h
+
+pub held : {r t : Bool} → r ≡ t → not r ≡ false → t ≡ true
+held {r} e h = sym e ∙ not-false r h
+
 -- ---- sums of counts
+
+pub before-none : (f : ℕ → ℕ) → 0 ≡ before f 0
+unfolding before
+before-none f = refl
 
 pub before-more : (f : ℕ → ℕ) (i : ℕ) → before f (i + 1) ≡ before f i + f i
 unfolding before
@@ -49,6 +61,10 @@ before-bound f b zero h = omega arith
 before-bound f b (suc n) h = omega (arith, before-bound f b n (λ i l. h i (omega arith)), h n (omega arith))
 
 -- ---- tests of every turn
+
+pub every-none : (test : ℕ → Bool) → every test 0 ≡ true
+unfolding every
+every-none test = refl
 
 pub every-more : (test : ℕ → Bool) (i : ℕ) → every test i ≡ true → test i ≡ true → every test (i + 1) ≡ true
 unfolding every

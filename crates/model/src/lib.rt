@@ -1,4 +1,5 @@
 // The network model: layouts by name, numbers 1 to 3, and model/dc.rs's quantities.
+pub mod cost;
 pub mod layout;
 pub mod rows;
 

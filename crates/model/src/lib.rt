@@ -2,6 +2,7 @@
 pub mod cost;
 pub mod layout;
 pub mod rows;
+pub mod terms;
 
 // n, m, k, R, S, q, T.
 pub struct Counts {

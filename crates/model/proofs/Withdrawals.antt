@@ -2,7 +2,7 @@
 -- Main results: `front-at`, `front-later`, `none`, `more`, `over`, `unmet`, `changed`. Assumes nothing.
 use mathlib.Core.Path.{_≡_, refl, sym, _∙_}
 use mathlib.Core.Bool.{cond}
-use mathlib.Core.List.{List, _++_, append-assoc}
+use mathlib.Core.List.{List, append-assoc}
 use Prim.Native.Nat.{ℕ, suc, _+_, _-_, _≤_, _<_}
 use native.Mathlib.Numerals.{add-one}
 use native.Mathlib.Omega.{arith}
@@ -23,9 +23,8 @@ module _ {A : Type 0} where
   unfolding front
   front-later f n old i d h =
       let z : n + (i - n) ≡ i = omega arith in
-      let e : getD (made f n ++ drop n old) (n + (i - n)) d ≡ getD old (n + (i - n)) d =
-          (rw made-length at (getD-append-add (made f n) (drop n old) (i - n) d)) ∙ getD-drop n old (i - n) d in
-      rw made-length (rw z at e)
+      let e = rw made-length at (getD-append-add (made f n) (drop n old) (i - n) d) in
+      rw (made-length f n) (rw z at (e ∙ getD-drop n old (i - n) d))
 
   -- new is old with its first n words replaced by f's values
   pub record Fronted (f : ℕ → A) (n : ℕ) (old new : List A) : Type 0 where
@@ -42,16 +41,16 @@ module _ {A : Type 0} where
   more {f} {i} {old} v h p e =
       record {
         is = rw (p .is, made-length, drop-cons old i v h, set-at (made f i) (getD old i v) (drop (suc i) old) v i (made-length f i), e, add-one, append-assoc, length-append, made-length f i, add-one);
-        kept = simp length-set (p .kept)
+        kept = simp length-set (p .kept);
       }
 
   -- a front over a front
-  pub over : {f g : ℕ → A} {n : ℕ} {old mid new : List A} → n ≤ length old → Fronted f n old mid → Fronted g n mid new → Fronted g n old new
+  pub over : {f g : ℕ → A} {n : ℕ} {old mid new : List A} → Fronted f n old mid → Fronted g n mid new → Fronted g n old new
   unfolding front
-  over {f} {g} {n} {old} h p q =
+  over {f} {g} {n} {old} p q =
       record {
-        is = rw (q .is, p .is, made-length, made-length, drop-at (made f n) (drop n old) n (made-length f n));
-        kept = q .kept ∙ p .kept
+        is = rw (q .is, p .is, made-length g n, made-length f n, drop-at (made f n) (drop n old) n (made-length f n));
+        kept = q .kept ∙ p .kept;
       }
 
   -- the word at i, which a second walk over the front has not reached

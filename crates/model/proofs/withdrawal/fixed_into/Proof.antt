@@ -31,7 +31,7 @@ returns c =
     let l = c .before in
     let p = l .before .before .before .network-into .ensures in
     let e : l .loop .i ≡ l .before .before .before .before .before .before .before .before .args .c .buses = omega arith in
-    let q = over (omega arith) (record { is = p .0; kept = p .1 }) (rw e at (l .loop .inv .0)) in
+    let q = over (record { is = p .0; kept = p .1 }) (rw e at (l .loop .inv .0)) in
     (q .is, q .kept)
 
 pub fixed-into-spec : {M : Type 1} → statement M

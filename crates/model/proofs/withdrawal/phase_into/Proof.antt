@@ -47,11 +47,12 @@ loop-again c =
     let t = s .pre .0 .tos (l .loop .e) (omega arith) in
     let x = p .before .flow-offset-at .ensures in
     let wt = p .before .before .before .word2 in
-    let wf = p .before .before .before .before .word in
-    ((λ i h. p .phase-step .ensures .0 i ∙ rw (x, wt .ensures .0, wf .ensures .0, l .loop .inv .0 i h) (sym (turns-more _ nought (l .loop .e)))),
-     (λ i h. p .phase-step .ensures .0 i ∙ rw (ne-eqb (wt .result) i (λ q. omega arith), ne-eqb (wf .result) i (λ q. omega arith)) (l .loop .inv .1 i h)),
-     p .phase-step .ensures .1 ∙ l .loop .inv .2,
-     omega arith)
+    let wf = p .before .before .before .before .word in (
+      (λ i h. p .phase-step .ensures .0 i ∙ rw (x, wt .ensures .0, wf .ensures .0, l .loop .inv .0 i h) (sym (turns-more _ nought (l .loop .e)))),
+      (λ i h. p .phase-step .ensures .0 i ∙ rw (ne-eqb (wt .result) i (λ q. omega arith), ne-eqb (wf .result) i (λ q. omega arith)) (l .loop .inv .1 i h)),
+      p .phase-step .ensures .1 ∙ l .loop .inv .2,
+      omega arith,
+    )
 
 returns : tie.Need-returns Inv-loop μ-loop
 unfolding phase
@@ -60,8 +61,9 @@ returns c =
     let s = l .before .before .before .before .before .before .before .before in
     let e : l .loop .e ≡ s .args .c .branches = omega arith in
     let bl = l .before .before .before .blank .ensures in
-    let p = over (omega arith) (record { is = bl .0; kept = bl .1 })
-        (record { is = front-made _ _ nan _ _ (l .loop .inv .2) (omega arith) (rw e at (l .loop .inv .0)) (l .loop .inv .1); kept = l .loop .inv .2 }) in
+    let p =
+    over (record { is = bl .0; kept = bl .1 })
+    (record { is = front-made _ _ nan _ _ (l .loop .inv .2) (omega arith) (rw e at (l .loop .inv .0)) (l .loop .inv .1); kept = l .loop .inv .2 }) in
     (p .is, p .kept)
 
 pub phase-into-spec : {M : Type 1} → statement M

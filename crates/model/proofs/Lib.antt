@@ -2,3 +2,4 @@
 pub mod Places
 pub mod Tests
 pub mod Runs
+pub mod Withdrawals

@@ -4,6 +4,7 @@ pub mod cost;
 pub mod layout;
 pub mod rows;
 pub mod terms;
+pub mod withdrawal;
 
 // n, m, k, R, S, q, T.
 pub struct Counts {

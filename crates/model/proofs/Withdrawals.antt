@@ -1,0 +1,65 @@
+-- A sheet whose front is overwritten word by word: what it holds, one word more, one front over another.
+-- Main results: `front-at`, `front-later`, `none`, `more`, `over`, `unmet`, `changed`. Assumes nothing.
+use mathlib.Core.Path.{_≡_, refl, sym, _∙_}
+use mathlib.Core.Bool.{cond}
+use mathlib.Core.List.{List, append-assoc}
+use Prim.Native.Nat.{ℕ, suc, _+_, _-_, _≤_, _<_}
+use native.Mathlib.Numerals.{add-one}
+use native.Mathlib.Omega.{arith}
+use borrow.Author.Tests.{eq-eqb, ne-eqb}
+use lib.Dec.{eqb}
+use lib.ListN.{length, getD, set, drop, length-set, length-append, List·getD-append}
+use lib.Seq.{drop-cons, drop-at, set-at, getD-append-add, getD-drop}
+use Rattle.sequence.specs.Lists.{made, front}
+use Rattle.sequence.proofs.Lists.{made-length, made-at, stored-at}
+
+module _ {A : Type 0} where
+  -- what a front holds: f's values, and then the old words
+  pub front-at : (f : ℕ → A) (n : ℕ) (old : List A) (i : ℕ) (d : A) → i < n → getD (front (made f n) old) i d ≡ f i
+  unfolding front
+  front-at f n old i d h = List·getD-append (made f n) _ d i (rw made-length h) ∙ made-at f n i d h
+
+  pub front-later : (f : ℕ → A) (n : ℕ) (old : List A) (i : ℕ) (d : A) → n ≤ i → getD (front (made f n) old) i d ≡ getD old i d
+  unfolding front
+  front-later f n old i d h =
+      let z : n + (i - n) ≡ i = omega arith in
+      let e = rw made-length at (getD-append-add (made f n) (drop n old) (i - n) d) in
+      rw (made-length f n) (rw z at (e ∙ getD-drop n old (i - n) d))
+
+  -- new is old with its first n words replaced by f's values
+  pub record Fronted (f : ℕ → A) (n : ℕ) (old new : List A) : Type 0 where
+    pub is : new ≡ front (made f n) old
+    pub kept : length new ≡ length old
+
+  pub none : (f : ℕ → A) (old : List A) → Fronted f 0 old old
+  unfolding front made
+  none f old = record { is = refl; kept = refl }
+
+  -- one word more
+  pub more : {f : ℕ → A} {i : ℕ} {old new : List A} (v : A) → i < length old → Fronted f i old new → v ≡ f i → Fronted f (i + 1) old (set new i v)
+  unfolding front made
+  more {f} {i} {old} v h p e =
+      record {
+        is = rw (p .is, made-length, drop-cons old i v h, set-at (made f i) (getD old i v) (drop (suc i) old) v i (made-length f i), e, add-one, append-assoc, length-append, made-length f i, add-one);
+        kept = simp length-set (p .kept);
+      }
+
+  -- a front over a front
+  pub over : {f g : ℕ → A} {n : ℕ} {old mid new : List A} → Fronted f n old mid → Fronted g n mid new → Fronted g n old new
+  unfolding front
+  over {f} {g} {n} {old} p q =
+      record {
+        is = rw (q .is, p .is, made-length g n, made-length f n, drop-at (made f n) (drop n old) n (made-length f n));
+        kept = q .kept ∙ p .kept;
+      }
+
+  -- the word at i, which a second walk over the front has not reached
+  pub unmet : {f g : ℕ → A} {n i : ℕ} {old mid new : List A} (d : A) → i < n → Fronted f n old mid → Fronted g i mid new → getD new i d ≡ f i
+  unmet {f} {g} {n} {i} {old} {mid} d h p q = rw (q .is, front-later g i mid i d (omega arith), p .is, front-at f n old i d)
+
+  -- a word that is changed in place, read at any place
+  pub changed : (step : A → A) (l : List A) (k i : ℕ) (d : A) → k < length l → getD (set l k (step (getD l k d))) i d ≡ cond (eqb k i) (step (getD l i d)) (getD l i d)
+  changed step l k i d h =
+      stored-at (λ x. x ≡ cond (eqb k i) (step (getD l i d)) (getD l i d)) l k (step (getD l k d)) i d h
+      (λ e. rw (e, eq-eqb k k refl))
+      (λ e. rw (ne-eqb k i (λ q. e (sym q))))

@@ -1,6 +1,7 @@
 // The network model: layouts by name, numbers 1 to 3, and model/dc.rs's quantities.
 pub mod check;
 pub mod cost;
+pub mod dc;
 pub mod layout;
 pub mod rows;
 pub mod terms;

@@ -10,6 +10,10 @@ use Rattle.sequence.specs.Lists.{front}
 use Rattle.sequence.specs.Answers.{Test, test, firstOf, marked, Filled, filled, fills}
 use Rattle.sequence.proofs.Lists.{and-left, and-right}
 
+pub no-test : firstOf [] ≡ 0
+unfolding firstOf
+no-test = refl
+
 -- a test that does not hold is passed
 pub passed : (n : ℕ) (b : Bool) (ts : List Test) → b ≡ false → firstOf (test n b ∷ ts) ≡ firstOf ts
 unfolding firstOf

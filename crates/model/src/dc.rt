@@ -1,0 +1,292 @@
+// model/dc.rs's quantities as public calls. Each tests the whole network, answers 01's number and a
+// count, and fills the front of the sheet that it is lent; a refusal changes no word.
+use crate::check::all_within;
+use crate::check::is_raw;
+use crate::check::network_number_with;
+use crate::cost::generator_cost_at;
+use crate::layout::counts;
+use crate::terms::evaluate_at;
+use crate::withdrawal::fixed_into;
+use crate::withdrawal::flow_offset_at;
+use crate::withdrawal::network_into;
+use crate::withdrawal::phase_into;
+use crate::withdrawal::shed_cap_at;
+use float64::sheet_limit;
+use sequence::Answer;
+ghost use mathlib.Core.Path.{_≡_};
+ghost use lib.ListN.{getD};
+ghost use mathlib.Core.Bool.{_&&_};
+ghost use lib.Dec.{eqb};
+ghost use lib.ListN.{length};
+ghost use Rattle.sequence.specs.Answers.{filled};
+ghost use Rattle.float64.specs.Values.{sheetLimit};
+ghost use Rattle.model.specs.Numbers.{lent, allWithin};
+ghost use Rattle.model.specs.Calls.{shedCapCall, flowOffsetCall, generatorCostCall, evaluateCall, phaseCall, networkCall, fixedCall};
+
+// The phase-shift withdrawal of every bus.
+pub fn phase_withdrawal(
+    wiring: &[u32],
+    readings: &[f64],
+    term_index: &[u32],
+    term_coefficient: &[f64],
+    out: &mut [f64],
+) -> Answer
+    ensures { λ a. ⌜ filled (a .number) (a .count) (now (out .exit)) ≡ phaseCall (lent (wiring .entry) (readings .entry) («term_index» .entry) («term_coefficient» .entry)) (now (out .entry)) ⌝ }
+{
+    let number = network_number_with(wiring, readings, term_index, term_coefficient, true, true);
+    if number != 0 {
+        return Answer { number, count: 0 };
+    }
+    let c = counts(wiring);
+    if out.len() < c.buses {
+        return Answer {
+            number: 7,
+            count: 0,
+        };
+    }
+    phase_into(wiring, readings, c, out);
+    Answer {
+        number: 0,
+        count: c.buses,
+    }
+}
+
+// The fixed withdrawal of every bus other than demand: shunt conductance and phase shift, less the HVDC injection.
+pub fn network_withdrawal(
+    wiring: &[u32],
+    readings: &[f64],
+    term_index: &[u32],
+    term_coefficient: &[f64],
+    out: &mut [f64],
+) -> Answer
+    ensures { λ a. ⌜ filled (a .number) (a .count) (now (out .exit)) ≡ networkCall (lent (wiring .entry) (readings .entry) («term_index» .entry) («term_coefficient» .entry)) (now (out .entry)) ⌝ }
+{
+    let number = network_number_with(wiring, readings, term_index, term_coefficient, true, true);
+    if number != 0 {
+        return Answer { number, count: 0 };
+    }
+    let c = counts(wiring);
+    if out.len() < c.buses {
+        return Answer {
+            number: 7,
+            count: 0,
+        };
+    }
+    network_into(wiring, readings, c, out);
+    Answer {
+        number: 0,
+        count: c.buses,
+    }
+}
+
+// The fixed withdrawal of every bus: demand and the network withdrawal.
+pub fn current_fixed_withdrawal(
+    wiring: &[u32],
+    readings: &[f64],
+    term_index: &[u32],
+    term_coefficient: &[f64],
+    out: &mut [f64],
+) -> Answer
+    ensures { λ a. ⌜ filled (a .number) (a .count) (now (out .exit)) ≡ fixedCall (lent (wiring .entry) (readings .entry) («term_index» .entry) («term_coefficient» .entry)) (now (out .entry)) ⌝ }
+{
+    let number = network_number_with(wiring, readings, term_index, term_coefficient, true, true);
+    if number != 0 {
+        return Answer { number, count: 0 };
+    }
+    let c = counts(wiring);
+    if out.len() < c.buses {
+        return Answer {
+            number: 7,
+            count: 0,
+        };
+    }
+    fixed_into(wiring, readings, c, out);
+    Answer {
+        number: 0,
+        count: c.buses,
+    }
+}
+
+// The affine flow offset of a branch at its present status.
+pub fn current_flow_offset(
+    wiring: &[u32],
+    readings: &[f64],
+    term_index: &[u32],
+    term_coefficient: &[f64],
+    branch: usize,
+    out: &mut [f64],
+) -> Answer
+    ensures { λ a. ⌜ filled (a .number) (a .count) (now (out .exit)) ≡ flowOffsetCall (lent (wiring .entry) (readings .entry) («term_index» .entry) («term_coefficient» .entry)) branch (now (out .entry)) ⌝ }
+{
+    let number = network_number_with(wiring, readings, term_index, term_coefficient, true, true);
+    if number != 0 {
+        return Answer { number, count: 0 };
+    }
+    let c = counts(wiring);
+    if c.branches <= branch {
+        return Answer {
+            number: 5,
+            count: 0,
+        };
+    }
+    if out.len() < 1 {
+        return Answer {
+            number: 7,
+            count: 0,
+        };
+    }
+    out[0] = flow_offset_at(readings, c, branch);
+    Answer {
+        number: 0,
+        count: 1,
+    }
+}
+
+// The shedding upper bound at a bus.
+pub fn shed_cap(
+    wiring: &[u32],
+    readings: &[f64],
+    term_index: &[u32],
+    term_coefficient: &[f64],
+    bus: usize,
+    out: &mut [f64],
+) -> Answer
+    ensures { λ a. ⌜ filled (a .number) (a .count) (now (out .exit)) ≡ shedCapCall (lent (wiring .entry) (readings .entry) («term_index» .entry) («term_coefficient» .entry)) bus (now (out .entry)) ⌝ }
+{
+    let number = network_number_with(wiring, readings, term_index, term_coefficient, true, true);
+    if number != 0 {
+        return Answer { number, count: 0 };
+    }
+    let c = counts(wiring);
+    if c.buses <= bus {
+        return Answer {
+            number: 5,
+            count: 0,
+        };
+    }
+    if out.len() < 1 {
+        return Answer {
+            number: 7,
+            count: 0,
+        };
+    }
+    out[0] = shed_cap_at(wiring, readings, c, bus);
+    Answer {
+        number: 0,
+        count: 1,
+    }
+}
+
+// A generator's cost at a power in per unit.
+pub fn generator_cost(
+    wiring: &[u32],
+    readings: &[f64],
+    term_index: &[u32],
+    term_coefficient: &[f64],
+    generator: usize,
+    power: f64,
+    out: &mut [f64],
+) -> Answer
+    ensures { λ a. ⌜ filled (a .number) (a .count) (now (out .exit)) ≡ generatorCostCall (lent (wiring .entry) (readings .entry) («term_index» .entry) («term_coefficient» .entry)) generator power (now (out .entry)) ⌝ }
+{
+    let values = is_raw(power);
+    let number = network_number_with(wiring, readings, term_index, term_coefficient, true, values);
+    if number != 0 {
+        return Answer { number, count: 0 };
+    }
+    let c = counts(wiring);
+    if c.generators <= generator {
+        return Answer {
+            number: 5,
+            count: 0,
+        };
+    }
+    if out.len() < 1 {
+        return Answer {
+            number: 7,
+            count: 0,
+        };
+    }
+    out[0] = generator_cost_at(wiring, readings, c, generator, power);
+    Answer {
+        number: 0,
+        count: 1,
+    }
+}
+
+// A word of the wiring, and 0 past its end.
+fn word_or_zero(wiring: &[u32], i: usize) -> usize
+    ensures { λ r. ⌜ r ≡ getD (now (wiring .entry)) i 0 ⌝ }
+{
+    if i < wiring.len() {
+        return wiring[i] as usize;
+    }
+    0
+}
+
+// Whether there are as many flows as branches, and as many powers as generators.
+fn flows_and_powers(wiring: &[u32], f: &[f64], pg: &[f64]) -> bool
+    ensures { λ r. ⌜ r ≡ (eqb (length (now (f .entry))) (getD (now (wiring .entry)) 1 0) && eqb (length (now (pg .entry))) (getD (now (wiring .entry)) 2 0)) ⌝ }
+{
+    if f.len() != word_or_zero(wiring, 1) {
+        return false;
+    }
+    pg.len() == word_or_zero(wiring, 2)
+}
+
+// Whether flows and powers are sheet readings.
+fn both_within(f: &[f64], pg: &[f64]) -> bool
+    ensures { λ r. ⌜ r ≡ (allWithin sheetLimit (now (f .entry)) && allWithin sheetLimit (now (pg .entry))) ⌝ }
+{
+    let limit = sheet_limit();
+    if !all_within(f, limit) {
+        return false;
+    }
+    all_within(pg, limit)
+}
+
+// A linear row's value at flows and powers.
+pub fn evaluate(
+    wiring: &[u32],
+    readings: &[f64],
+    term_index: &[u32],
+    term_coefficient: &[f64],
+    row: usize,
+    f: &[f64],
+    pg: &[f64],
+    out: &mut [f64],
+) -> Answer
+    ensures { λ a. ⌜ filled (a .number) (a .count) (now (out .exit)) ≡ evaluateCall (lent (wiring .entry) (readings .entry) («term_index» .entry) («term_coefficient» .entry)) row (now (f .entry)) (now (pg .entry)) (now (out .entry)) ⌝ }
+{
+    let sizes = flows_and_powers(wiring, f, pg);
+    let values = both_within(f, pg);
+    let number = network_number_with(
+        wiring,
+        readings,
+        term_index,
+        term_coefficient,
+        sizes,
+        values,
+    );
+    if number != 0 {
+        return Answer { number, count: 0 };
+    }
+    let c = counts(wiring);
+    if c.rows <= row {
+        return Answer {
+            number: 5,
+            count: 0,
+        };
+    }
+    if out.len() < 1 {
+        return Answer {
+            number: 7,
+            count: 0,
+        };
+    }
+    out[0] = evaluate_at(wiring, c, term_index, term_coefficient, row, f, pg);
+    Answer {
+        number: 0,
+        count: 1,
+    }
+}

@@ -1,0 +1,441 @@
+//! The exports: their declarations, and calls on memory whose every byte is watched.
+//!
+//! An input slice ends where the next page may not be read. An output is lent from the
+//! middle of a buffer of random bytes, so that a byte written outside its place shows.
+
+use crate::paper::Lent;
+use crate::random::Rng;
+
+#[cfg(target_os = "linux")]
+use crate::watch;
+
+mod exports {
+    extern "C" {
+        pub fn capi_network_number(
+            wiring: *const u8,
+            wiring_length: usize,
+            readings: *const u8,
+            readings_length: usize,
+            term_index: *const u8,
+            term_index_length: usize,
+            term_coefficient: *const u8,
+            term_coefficient_length: usize,
+        ) -> u64;
+        pub fn capi_shed_cap(
+            wiring: *const u8,
+            wiring_length: usize,
+            readings: *const u8,
+            readings_length: usize,
+            term_index: *const u8,
+            term_index_length: usize,
+            term_coefficient: *const u8,
+            term_coefficient_length: usize,
+            bus: usize,
+            out: *mut u8,
+            out_length: usize,
+        ) -> u64;
+        pub fn capi_current_flow_offset(
+            wiring: *const u8,
+            wiring_length: usize,
+            readings: *const u8,
+            readings_length: usize,
+            term_index: *const u8,
+            term_index_length: usize,
+            term_coefficient: *const u8,
+            term_coefficient_length: usize,
+            branch: usize,
+            out: *mut u8,
+            out_length: usize,
+        ) -> u64;
+        pub fn capi_generator_cost(
+            wiring: *const u8,
+            wiring_length: usize,
+            readings: *const u8,
+            readings_length: usize,
+            term_index: *const u8,
+            term_index_length: usize,
+            term_coefficient: *const u8,
+            term_coefficient_length: usize,
+            generator: usize,
+            power_bits: u64,
+            out: *mut u8,
+            out_length: usize,
+        ) -> u64;
+        pub fn capi_evaluate(
+            wiring: *const u8,
+            wiring_length: usize,
+            readings: *const u8,
+            readings_length: usize,
+            term_index: *const u8,
+            term_index_length: usize,
+            term_coefficient: *const u8,
+            term_coefficient_length: usize,
+            row: usize,
+            f: *const u8,
+            f_length: usize,
+            pg: *const u8,
+            pg_length: usize,
+            out: *mut u8,
+            out_length: usize,
+        ) -> u64;
+        pub fn capi_row_kind(
+            wiring: *const u8,
+            wiring_length: usize,
+            readings: *const u8,
+            readings_length: usize,
+            term_index: *const u8,
+            term_index_length: usize,
+            term_coefficient: *const u8,
+            term_coefficient_length: usize,
+            row: usize,
+        ) -> u64;
+        pub fn capi_phase_withdrawal(
+            wiring: *const u8,
+            wiring_length: usize,
+            readings: *const u8,
+            readings_length: usize,
+            term_index: *const u8,
+            term_index_length: usize,
+            term_coefficient: *const u8,
+            term_coefficient_length: usize,
+            out: *mut u8,
+            out_length: usize,
+        ) -> u64;
+        pub fn capi_network_withdrawal(
+            wiring: *const u8,
+            wiring_length: usize,
+            readings: *const u8,
+            readings_length: usize,
+            term_index: *const u8,
+            term_index_length: usize,
+            term_coefficient: *const u8,
+            term_coefficient_length: usize,
+            out: *mut u8,
+            out_length: usize,
+        ) -> u64;
+        pub fn capi_current_fixed_withdrawal(
+            wiring: *const u8,
+            wiring_length: usize,
+            readings: *const u8,
+            readings_length: usize,
+            term_index: *const u8,
+            term_index_length: usize,
+            term_coefficient: *const u8,
+            term_coefficient_length: usize,
+            out: *mut u8,
+            out_length: usize,
+        ) -> u64;
+        pub fn capi_susceptance_coo(
+            wiring: *const u8,
+            wiring_length: usize,
+            readings: *const u8,
+            readings_length: usize,
+            term_index: *const u8,
+            term_index_length: usize,
+            term_coefficient: *const u8,
+            term_coefficient_length: usize,
+            rows: *mut u8,
+            rows_length: usize,
+            cols: *mut u8,
+            cols_length: usize,
+            values: *mut u8,
+            values_length: usize,
+        ) -> u64;
+    }
+}
+
+/// A lent input slice, as an export takes it.
+#[derive(Clone, Copy)]
+pub struct In {
+    at: *const u8,
+    length: usize,
+}
+
+/// A lent output slice.
+#[derive(Clone, Copy)]
+pub struct Out {
+    at: *mut u8,
+    length: usize,
+}
+
+#[derive(Clone, Copy)]
+pub struct Network {
+    wiring: In,
+    readings: In,
+    term_index: In,
+    term_coefficient: In,
+}
+
+/// Calls an export on a network and further arguments.
+macro_rules! call {
+    ($export:ident, $net:expr $(, $argument:expr)*) => {
+        // The memory behind each slice is a `Memory`'s, alive and of at least that length.
+        unsafe {
+            exports::$export(
+                $net.wiring.at,
+                $net.wiring.length,
+                $net.readings.at,
+                $net.readings.length,
+                $net.term_index.at,
+                $net.term_index.length,
+                $net.term_coefficient.at,
+                $net.term_coefficient.length
+                $(, $argument)*
+            )
+        }
+    };
+}
+
+pub fn network_number(net: Network) -> u64 {
+    broken::limit(net, call!(capi_network_number, net))
+}
+
+pub fn shed_cap(net: Network, bus: usize, out: Out) -> u64 {
+    call!(capi_shed_cap, net, bus, out.at, out.length)
+}
+
+pub fn current_flow_offset(net: Network, branch: usize, out: Out) -> u64 {
+    call!(capi_current_flow_offset, net, branch, out.at, out.length)
+}
+
+pub fn generator_cost(net: Network, generator: usize, power_bits: u64, out: Out) -> u64 {
+    call!(capi_generator_cost, net, generator, power_bits, out.at, out.length)
+}
+
+pub fn evaluate(net: Network, row: usize, f: In, pg: In, out: Out) -> u64 {
+    call!(capi_evaluate, net, row, f.at, f.length, pg.at, pg.length, out.at, out.length)
+}
+
+pub fn row_kind(net: Network, row: usize) -> u64 {
+    call!(capi_row_kind, net, row)
+}
+
+pub fn phase_withdrawal(net: Network, out: Out) -> u64 {
+    broken::count(call!(capi_phase_withdrawal, net, out.at, out.length))
+}
+
+pub fn network_withdrawal(net: Network, out: Out) -> u64 {
+    call!(capi_network_withdrawal, net, out.at, out.length)
+}
+
+pub fn current_fixed_withdrawal(net: Network, out: Out) -> u64 {
+    broken::word(out, call!(capi_current_fixed_withdrawal, net, out.at, out.length))
+}
+
+pub fn susceptance_coo(net: Network, rows: Out, cols: Out, values: Out) -> u64 {
+    let (r, c, v) = (rows, cols, values);
+    let answer = call!(capi_susceptance_coo, net, r.at, r.length, c.at, c.length, v.at, v.length);
+    broken::sign(rows, cols, values, answer)
+}
+
+/// Deliberately wrong answers, one a feature. Without features each passes its answer on.
+mod broken {
+    use super::{Network, Out};
+
+    /// The first triplet off the diagonal gets the wrong sign.
+    pub fn sign(rows: Out, cols: Out, values: Out, answer: u64) -> u64 {
+        if cfg!(feature = "broken_sign") && answer % 256 == 0 {
+            let triplets = (answer / 256) as usize;
+            let (rows, cols, values) = unsafe { (rows.bytes(), cols.bytes(), values.bytes()) };
+            let off = (0..triplets)
+                .find(|&place| rows[4 * place..4 * place + 4] != cols[4 * place..4 * place + 4]);
+            if let Some(place) = off {
+                values[8 * place + 7] ^= 0x80;
+            }
+        }
+        answer
+    }
+
+    /// 513 branches pass.
+    pub fn limit(net: Network, answer: u64) -> u64 {
+        if cfg!(feature = "broken_limit") && answer == 1 && net.wiring.length >= 8 {
+            let wiring = unsafe { std::slice::from_raw_parts(net.wiring.at, net.wiring.length) };
+            if crate::paper::word(wiring, 1) == 513 {
+                return 0;
+            }
+        }
+        answer
+    }
+
+    /// A short sheet's first word moves.
+    pub fn word(out: Out, answer: u64) -> u64 {
+        if cfg!(feature = "broken_word") && answer == 7 && out.length >= 8 {
+            let bytes = unsafe { out.bytes() };
+            bytes[0] ^= 1;
+        }
+        answer
+    }
+
+    /// An accepted call counts one too many.
+    pub fn count(answer: u64) -> u64 {
+        if cfg!(feature = "broken_count") && answer % 256 == 0 {
+            return answer + 256;
+        }
+        answer
+    }
+}
+
+impl Out {
+    /// The lent bytes. The memory must be a `Memory`'s and not borrowed elsewhere.
+    unsafe fn bytes<'a>(self) -> &'a mut [u8] {
+        std::slice::from_raw_parts_mut(self.at, self.length)
+    }
+}
+
+/// The greatest input slice in bytes; no network drawn comes near it.
+const SLOT: usize = 1 << 18;
+/// At least one page of any machine.
+const GUARD_PAGE: usize = 1 << 16;
+/// Bytes before and after a lent output.
+const GUARD: usize = 64;
+const POOL: usize = 1 << 16;
+
+/// Memory for one input slice, which always ends at its end.
+struct Slot {
+    end: *mut u8,
+    length: usize,
+}
+
+impl Slot {
+    fn new() -> Slot {
+        #[cfg(target_os = "linux")]
+        let start = watch::guarded(SLOT, GUARD_PAGE);
+        #[cfg(not(target_os = "linux"))]
+        let start = Box::leak(vec![0u8; SLOT + GUARD_PAGE].into_boxed_slice()).as_mut_ptr();
+        Slot { end: unsafe { start.add(SLOT) }, length: 0 }
+    }
+
+    fn fill(&mut self, bytes: &[u8]) {
+        assert!(bytes.len() <= SLOT, "an input slice has its place in a slot");
+        self.length = bytes.len();
+        unsafe { std::ptr::copy_nonoverlapping(bytes.as_ptr(), self.start(), bytes.len()) };
+    }
+
+    fn start(&self) -> *mut u8 {
+        unsafe { self.end.sub(self.length) }
+    }
+
+    fn lend(&self) -> In {
+        In { at: self.start(), length: self.length }
+    }
+
+    fn holds(&self, bytes: &[u8]) -> bool {
+        unsafe { std::slice::from_raw_parts(self.start(), self.length) == bytes }
+    }
+}
+
+/// A buffer with one lent output in its middle.
+struct Sheet {
+    buffer: Vec<u8>,
+    length: usize,
+    /// Where in the pool its first contents stand.
+    from: usize,
+}
+
+impl Sheet {
+    fn lend(&mut self) -> Out {
+        Out { at: unsafe { self.buffer.as_mut_ptr().add(GUARD) }, length: self.length }
+    }
+}
+
+const LISTS: usize = 2;
+const SHEETS: usize = 3;
+
+/// All memory that calls are lent.
+pub struct Memory {
+    network: [Slot; 4],
+    lists: [Slot; LISTS],
+    sheets: [Sheet; SHEETS],
+    pool: Vec<u8>,
+}
+
+impl Memory {
+    pub fn new(seed: u64) -> Memory {
+        let mut rng = Rng::new(seed, u64::MAX);
+        let pool = (0..POOL / 8).flat_map(|_| rng.next().to_le_bytes()).collect();
+        let sheet = || Sheet { buffer: Vec::with_capacity(POOL), length: 0, from: 0 };
+        Memory {
+            network: [Slot::new(), Slot::new(), Slot::new(), Slot::new()],
+            lists: [Slot::new(), Slot::new()],
+            sheets: [sheet(), sheet(), sheet()],
+            pool,
+        }
+    }
+
+    pub fn fill_network(&mut self, lent: &Lent) {
+        for (slot, bytes) in self.network.iter_mut().zip(lent.slices()) {
+            slot.fill(bytes);
+        }
+    }
+
+    pub fn fill_list(&mut self, list: usize, bytes: &[u8]) {
+        self.lists[list].fill(bytes);
+    }
+
+    /// Fills a sheet of this many bytes, and its surroundings, from the pool.
+    pub fn fill_sheet(&mut self, sheet: usize, length: usize, rng: &mut Rng) {
+        let whole = length + 2 * GUARD;
+        let from = rng.below(POOL - whole);
+        let sheet = &mut self.sheets[sheet];
+        sheet.buffer.clear();
+        sheet.buffer.extend_from_slice(&self.pool[from..from + whole]);
+        sheet.length = length;
+        sheet.from = from;
+    }
+
+    pub fn network(&self) -> Network {
+        Network {
+            wiring: self.network[0].lend(),
+            readings: self.network[1].lend(),
+            term_index: self.network[2].lend(),
+            term_coefficient: self.network[3].lend(),
+        }
+    }
+
+    pub fn list(&self, list: usize) -> In {
+        self.lists[list].lend()
+    }
+
+    pub fn sheet(&mut self, sheet: usize) -> Out {
+        self.sheets[sheet].lend()
+    }
+
+    /// The first network slice that no longer holds its bytes.
+    pub fn moved_network(&self, lent: &Lent) -> Option<usize> {
+        let slices = lent.slices();
+        (0..4).find(|&place| !self.network[place].holds(slices[place]))
+    }
+
+    pub fn list_moved(&self, list: usize, bytes: &[u8]) -> bool {
+        !self.lists[list].holds(bytes)
+    }
+
+    /// What was written to the front of a sheet.
+    pub fn front(&self, sheet: usize, length: usize) -> &[u8] {
+        &self.sheets[sheet].buffer[GUARD..GUARD + length]
+    }
+
+    /// The first byte outside the front that moved, counted from the sheet's start.
+    pub fn stray(&self, sheet: usize, front: usize) -> Option<isize> {
+        let sheet = &self.sheets[sheet];
+        let before = &self.pool[sheet.from..sheet.from + sheet.buffer.len()];
+        let rest = GUARD + front;
+        if sheet.buffer[..GUARD] == before[..GUARD] && sheet.buffer[rest..] == before[rest..] {
+            return None;
+        }
+        let moved = (0..sheet.buffer.len())
+            .filter(|&place| place < GUARD || place >= rest)
+            .find(|&place| sheet.buffer[place] != before[place]);
+        moved.map(|place| place as isize - GUARD as isize)
+    }
+
+    /// Tells the watch which memory the next call is lent.
+    #[cfg(target_os = "linux")]
+    pub fn watch(&self, name: &'static str, index: usize, bits: u64) {
+        let slots = self.network.iter().chain(&self.lists);
+        watch::note_call(name, index, bits, slots.map(|slot| (slot.start() as usize, slot.length)));
+    }
+
+    #[cfg(not(target_os = "linux"))]
+    pub fn watch(&self, _name: &'static str, _index: usize, _bits: u64) {}
+}

@@ -1,0 +1,611 @@
+//! Each call: its arguments, what it must answer, and the check of every lent byte.
+//! A further call is one more entry of `OPS`.
+
+use oracle::Oracle;
+
+use crate::abi::{self, Memory};
+use crate::damage::{broken_double, Fault};
+use crate::generate::{sheet_value, value};
+use crate::marks::mark_call;
+use crate::paper::{
+    self, bytes_of_doubles, double, within, word, Count, Field, Held, Lent, Shape, Wire,
+    READING_LIMIT, SHEET_LIMIT, SLICE_NAMES,
+};
+use crate::random::Rng;
+use crate::report::{Coverage, Mismatch};
+
+/// A network as lent, with the paper's reading of it; the original Rust answers for it
+/// where it is accepted.
+pub struct Site {
+    pub lent: Lent,
+    pub held: Held,
+    pub shape: Option<Shape>,
+    oracle: Option<Oracle>,
+}
+
+impl Site {
+    pub fn new(lent: Lent) -> Site {
+        let (held, shape) = paper::held(&lent);
+        let oracle = if held.lowest() == 0 {
+            Some(Oracle::new(&oracle::Network {
+                wiring: paper::words(&lent.wiring),
+                readings: paper::doubles(&lent.readings),
+                term_index: paper::words(&lent.term_index),
+                term_coefficient: paper::doubles(&lent.term_coefficient),
+            }))
+        } else {
+            None
+        };
+        Site { lent, held, shape, oracle }
+    }
+
+    fn oracle(&self) -> &Oracle {
+        self.oracle.as_ref().expect("asked of accepted networks only")
+    }
+
+    pub fn shape(&self) -> &Shape {
+        self.shape.as_ref().expect("asked only where number 1 does not hold")
+    }
+
+    /// A count, if number 1 does not hold.
+    pub fn count(&self, count: Count) -> Option<usize> {
+        self.shape.as_ref().map(|shape| shape.count(count))
+    }
+
+    pub fn wire(&self, wire: Wire, place: usize) -> u32 {
+        word(&self.lent.wiring, self.shape().wire_range(wire).start + place)
+    }
+
+    pub fn reading(&self, field: Field, place: usize) -> f64 {
+        double(&self.lent.readings, self.shape().field_range(field).start + place)
+    }
+}
+
+/// What a lent output holds.
+#[derive(Clone, Copy, PartialEq, Eq)]
+pub enum Word {
+    U32,
+    F64,
+}
+
+impl Word {
+    fn size(self) -> usize {
+        match self {
+            Word::U32 => 4,
+            Word::F64 => 8,
+        }
+    }
+}
+
+/// The words that a call puts at the front of one output.
+pub enum Front {
+    U32(Vec<u32>),
+    F64(Vec<f64>),
+}
+
+impl Front {
+    pub fn len(&self) -> usize {
+        match self {
+            Front::U32(words) => words.len(),
+            Front::F64(words) => words.len(),
+        }
+    }
+}
+
+/// An accepted call's count and outputs.
+pub struct Answer {
+    count: u64,
+    fronts: Vec<Front>,
+}
+
+fn one(x: f64) -> Answer {
+    Answer { count: 1, fronts: vec![Front::F64(vec![x])] }
+}
+
+fn all(words: Vec<f64>) -> Answer {
+    Answer { count: words.len() as u64, fronts: vec![Front::F64(words)] }
+}
+
+/// How much of an output is lent, measured from its result: words more or less, and bytes
+/// that make no whole word.
+#[derive(Clone, Copy, Debug, Default)]
+pub struct Lend {
+    pub words: i32,
+    pub leftover: u8,
+}
+
+impl Lend {
+    const NOTHING: i32 = -1_000_000;
+
+    fn bytes(self, need: usize, word: Word) -> usize {
+        let words = (need as i64 + i64::from(self.words)).max(0) as usize;
+        words * word.size() + usize::from(self.leftover) % word.size()
+    }
+}
+
+/// Everything a call is given beside the network.
+#[derive(Clone, Debug, Default)]
+pub struct Args {
+    pub index: usize,
+    pub bits: u64,
+    pub lists: Vec<Vec<u8>>,
+    pub lends: Vec<Lend>,
+}
+
+/// A call and how it is checked.
+pub struct Op {
+    pub name: &'static str,
+    /// What the index argument counts.
+    pub index: Option<Count>,
+    /// Lent sheet readings: each list's name and the count that is its length.
+    pub lists: &'static [(&'static str, Count)],
+    /// Whether the bits argument is a power, a raw reading.
+    pub power: bool,
+    /// Lent outputs.
+    pub sheets: &'static [(&'static str, Word)],
+    /// Numbers that the call can answer.
+    pub numbers: &'static [u8],
+    /// Draws of arguments for each good network.
+    pub rounds: usize,
+    /// Words of the result where counts alone decide it.
+    need: fn(&Site) -> Option<usize>,
+    /// The answer where no number from 1 to 6 holds.
+    answer: fn(&Site, &Args) -> Answer,
+    invoke: fn(&mut Memory, &Args) -> u64,
+}
+
+fn one_word(_: &Site) -> Option<usize> {
+    Some(1)
+}
+
+fn one_a_bus(site: &Site) -> Option<usize> {
+    site.count(Count::Buses)
+}
+
+fn not_by_counts(_: &Site) -> Option<usize> {
+    None
+}
+
+pub static OPS: &[Op] = &[
+    Op {
+        name: "network_number",
+        index: None,
+        lists: &[],
+        power: false,
+        sheets: &[],
+        numbers: &[0, 1, 2, 3],
+        rounds: 1,
+        need: not_by_counts,
+        answer: |_, _| Answer { count: 0, fronts: vec![] },
+        invoke: |memory, _| abi::network_number(memory.network()),
+    },
+    Op {
+        name: "shed_cap",
+        index: Some(Count::Buses),
+        lists: &[],
+        power: false,
+        sheets: &[("out", Word::F64)],
+        numbers: &[0, 1, 2, 3, 5, 7],
+        rounds: 3,
+        need: one_word,
+        answer: |site, args| one(site.oracle().shed_cap(args.index)),
+        invoke: |memory, args| {
+            let out = memory.sheet(0);
+            abi::shed_cap(memory.network(), args.index, out)
+        },
+    },
+    Op {
+        name: "current_flow_offset",
+        index: Some(Count::Branches),
+        lists: &[],
+        power: false,
+        sheets: &[("out", Word::F64)],
+        numbers: &[0, 1, 2, 3, 5, 7],
+        rounds: 2,
+        need: one_word,
+        answer: |site, args| one(site.oracle().current_flow_offset(args.index)),
+        invoke: |memory, args| {
+            let out = memory.sheet(0);
+            abi::current_flow_offset(memory.network(), args.index, out)
+        },
+    },
+    Op {
+        name: "generator_cost",
+        index: Some(Count::Generators),
+        lists: &[],
+        power: true,
+        sheets: &[("out", Word::F64)],
+        numbers: &[0, 1, 2, 3, 5, 7],
+        rounds: 3,
+        need: one_word,
+        answer: |site, args| {
+            one(site.oracle().generator_cost(args.index, f64::from_bits(args.bits)))
+        },
+        invoke: |memory, args| {
+            let out = memory.sheet(0);
+            abi::generator_cost(memory.network(), args.index, args.bits, out)
+        },
+    },
+    Op {
+        name: "evaluate",
+        index: Some(Count::Rows),
+        lists: &[("f", Count::Branches), ("pg", Count::Generators)],
+        power: false,
+        sheets: &[("out", Word::F64)],
+        numbers: &[0, 1, 2, 3, 5, 7],
+        rounds: 3,
+        need: one_word,
+        answer: |site, args| {
+            let (f, pg) = (paper::doubles(&args.lists[0]), paper::doubles(&args.lists[1]));
+            one(site.oracle().evaluate(args.index, &f, &pg))
+        },
+        invoke: |memory, args| {
+            let out = memory.sheet(0);
+            let (f, pg) = (memory.list(0), memory.list(1));
+            abi::evaluate(memory.network(), args.index, f, pg, out)
+        },
+    },
+    Op {
+        name: "row_kind",
+        index: Some(Count::Rows),
+        lists: &[],
+        power: false,
+        sheets: &[],
+        numbers: &[0, 1, 2, 3, 5],
+        rounds: 3,
+        need: not_by_counts,
+        answer: |site, args| Answer { count: row_kind(site, args.index), fronts: vec![] },
+        invoke: |memory, args| abi::row_kind(memory.network(), args.index),
+    },
+    Op {
+        name: "phase_withdrawal",
+        index: None,
+        lists: &[],
+        power: false,
+        sheets: &[("out", Word::F64)],
+        numbers: &[0, 1, 2, 3, 7],
+        rounds: 1,
+        need: one_a_bus,
+        answer: |site, _| all(site.oracle().phase_withdrawal()),
+        invoke: |memory, _| {
+            let out = memory.sheet(0);
+            abi::phase_withdrawal(memory.network(), out)
+        },
+    },
+    Op {
+        name: "network_withdrawal",
+        index: None,
+        lists: &[],
+        power: false,
+        sheets: &[("out", Word::F64)],
+        numbers: &[0, 1, 2, 3, 7],
+        rounds: 1,
+        need: one_a_bus,
+        answer: |site, _| all(site.oracle().network_withdrawal()),
+        invoke: |memory, _| {
+            let out = memory.sheet(0);
+            abi::network_withdrawal(memory.network(), out)
+        },
+    },
+    Op {
+        name: "current_fixed_withdrawal",
+        index: None,
+        lists: &[],
+        power: false,
+        sheets: &[("out", Word::F64)],
+        numbers: &[0, 1, 2, 3, 7],
+        rounds: 1,
+        need: one_a_bus,
+        answer: |site, _| all(site.oracle().current_fixed_withdrawal()),
+        invoke: |memory, _| {
+            let out = memory.sheet(0);
+            abi::current_fixed_withdrawal(memory.network(), out)
+        },
+    },
+    Op {
+        name: "susceptance_coo",
+        index: None,
+        lists: &[],
+        power: false,
+        sheets: &[("rows", Word::U32), ("cols", Word::U32), ("values", Word::F64)],
+        numbers: &[0, 1, 2, 3, 7],
+        rounds: 2,
+        need: not_by_counts,
+        answer: |site, _| triplets(site.oracle().susceptance_coo()),
+        invoke: |memory, _| {
+            let (rows, cols, values) = (memory.sheet(0), memory.sheet(1), memory.sheet(2));
+            abi::susceptance_coo(memory.network(), rows, cols, values)
+        },
+    },
+];
+
+fn triplets(list: Vec<(usize, usize, f64)>) -> Answer {
+    Answer {
+        count: list.len() as u64,
+        fronts: vec![
+            Front::U32(list.iter().map(|triplet| triplet.0 as u32).collect()),
+            Front::U32(list.iter().map(|triplet| triplet.1 as u32).collect()),
+            Front::F64(list.iter().map(|triplet| triplet.2).collect()),
+        ],
+    }
+}
+
+/// A row's kind by its mask and limits, which the original's `is_equality` must share.
+fn row_kind(site: &Site, row: usize) -> u64 {
+    let equal = site.reading(Field::UpperMw, row) == site.reading(Field::LowerMw, row);
+    let kind = match site.wire(Wire::RowMasks, row) {
+        3 if equal => 4,
+        mask => mask,
+    };
+    let oracle = site.oracle();
+    assert!(oracle.row_kind(row) == kind, "row kinds of the oracle");
+    assert!(oracle.is_equality(row) == (kind == 4), "is_equality of the oracle");
+    u64::from(kind)
+}
+
+impl Op {
+    /// Pairs of numbers that can hold together, the first of which is answered. Where
+    /// number 1 holds of the network itself, nothing else can be read from it.
+    pub fn rivals(&self) -> Vec<(u8, u8)> {
+        let mut pairs = Vec::new();
+        for &low in self.numbers.iter().filter(|&&number| number > 0) {
+            for &high in self.numbers.iter().filter(|&&number| number > low) {
+                let readable = low > 1 || !self.lists.is_empty();
+                let sized = high != 7 || self.sheets.len() == 1;
+                if readable && sized {
+                    pairs.push((low, high));
+                }
+            }
+        }
+        pairs
+    }
+
+    /// Arguments for a call: most in order, some broken, each by itself.
+    pub fn draw(&self, site: &Site, rng: &mut Rng) -> Args {
+        let size = |count: Count| site.count(count).unwrap_or(3);
+        Args {
+            index: self.index.map_or(0, |count| draw_index(rng, size(count))),
+            bits: if self.power { draw_power(rng) } else { 0 },
+            lists: self.lists.iter().map(|list| draw_list(rng, size(list.1))).collect(),
+            lends: draw_lends(rng, self.sheets.len()),
+        }
+    }
+
+    /// Numbers from 1 to 5 that hold of the network and the arguments.
+    fn held(&self, site: &Site, args: &Args) -> Held {
+        let mut held = site.held;
+        if site.shape.is_none() {
+            return held;
+        }
+        if let Some(count) = self.index {
+            held = held.and(Held::when(5, args.index >= site.shape().count(count)));
+        }
+        for (list, &(_, count)) in args.lists.iter().zip(self.lists) {
+            let broken = |place| !within(double(list, place), SHEET_LIMIT);
+            held = held.and(Held::when(1, list.len() != 8 * site.shape().count(count)));
+            held = held.and(Held::when(3, (0..list.len() / 8).any(broken)));
+        }
+        if self.power {
+            let power = f64::from_bits(args.bits);
+            held = held.and(Held::when(3, !within(power, READING_LIMIT)));
+        }
+        held
+    }
+}
+
+fn draw_index(rng: &mut Rng, length: usize) -> usize {
+    match rng.below(100) {
+        0..=7 => length,
+        8..=10 => usize::MAX,
+        11..=12 => length + rng.between(1, 1000),
+        13..=16 => (1 << 32) + rng.below(length.max(1)),
+        17 => (1 << 63) + rng.below(length.max(1)),
+        18..=25 => 0,
+        26..=33 => length.saturating_sub(1),
+        _ => rng.below(length.max(1)),
+    }
+}
+
+fn draw_broken(rng: &mut Rng, limit: f64) -> f64 {
+    let fault = rng.pick(&Fault::ALL);
+    broken_double(rng, fault, limit)
+}
+
+fn draw_power(rng: &mut Rng) -> u64 {
+    let power = if rng.percent(10) { draw_broken(rng, READING_LIMIT) } else { value(rng) };
+    power.to_bits()
+}
+
+fn draw_list(rng: &mut Rng, length: usize) -> Vec<u8> {
+    let form = rng.below(100);
+    let words = match form {
+        0..=3 => length.saturating_sub(1),
+        4..=7 => length + 1,
+        _ => length,
+    };
+    let mut list: Vec<f64> = (0..words).map(|_| sheet_value(rng)).collect();
+    if words > 0 && rng.percent(8) {
+        let place = rng.pick(&[0, words / 2, words - 1]);
+        list[place] = draw_broken(rng, SHEET_LIMIT);
+    }
+    let mut bytes = bytes_of_doubles(&list);
+    if (8..=10).contains(&form) {
+        let odd = rng.between(1, 7);
+        if bytes.len() >= 8 && rng.percent(50) {
+            let left = bytes.len() - odd;
+            bytes.truncate(left);
+        } else {
+            bytes.extend(std::iter::repeat(0).take(odd));
+        }
+    }
+    bytes
+}
+
+fn draw_lend(rng: &mut Rng) -> Lend {
+    let leftover = rng.between(1, 7) as u8;
+    match rng.below(100) {
+        0..=49 => Lend { words: 0, leftover: 0 },
+        50..=58 => Lend { words: rng.between(1, 5) as i32, leftover: 0 },
+        59..=66 => Lend { words: 0, leftover },
+        67..=72 => Lend { words: rng.between(1, 5) as i32, leftover },
+        73..=84 => Lend { words: -1, leftover: 0 },
+        85..=91 => Lend { words: -1, leftover },
+        92..=95 => Lend { words: -(rng.between(2, 4) as i32), leftover: 0 },
+        _ => Lend { words: Lend::NOTHING, leftover: 0 },
+    }
+}
+
+/// Several outputs are short one at a time as often as together.
+fn draw_lends(rng: &mut Rng, sheets: usize) -> Vec<Lend> {
+    let mut lends = vec![Lend::default(); sheets];
+    if sheets == 0 {
+        return lends;
+    }
+    if rng.percent(50) {
+        let one = rng.below(sheets);
+        lends[one] = draw_lend(rng);
+    } else {
+        for lend in &mut lends {
+            *lend = draw_lend(rng);
+        }
+    }
+    lends
+}
+
+/// What a call must do, with the bytes it is lent for each output.
+pub struct Expected {
+    pub number: u8,
+    pub count: u64,
+    /// Empty on refusal.
+    pub fronts: Vec<Front>,
+    pub sheets: Vec<usize>,
+    /// All numbers that are known to hold.
+    pub held: Held,
+}
+
+/// Words lent where a refusal leaves the result's length open.
+const OPEN_RESULT: usize = 3;
+
+fn expect(op: &Op, site: &Site, args: &Args) -> Expected {
+    let held = op.held(site, args);
+    let lent = |needs: &[usize]| -> Vec<usize> {
+        let lends = args.lends.iter().zip(op.sheets).zip(needs);
+        lends.map(|((lend, sheet), &need)| lend.bytes(need, sheet.1)).collect()
+    };
+    let short = |sheets: &[usize], needs: &[usize]| {
+        let all = sheets.iter().zip(op.sheets).zip(needs);
+        Held::when(7, all.into_iter().any(|((&bytes, sheet), &need)| bytes / sheet.1.size() < need))
+    };
+    if held.lowest() > 0 {
+        let need = (op.need)(site);
+        let needs = vec![need.unwrap_or(OPEN_RESULT); op.sheets.len()];
+        let sheets = lent(&needs);
+        let known = site.shape.is_some() && need.is_some();
+        let held = if known { held.and(short(&sheets, &needs)) } else { held };
+        return Expected { number: held.lowest(), count: 0, fronts: vec![], sheets, held };
+    }
+    let answer = (op.answer)(site, args);
+    let needs: Vec<usize> = answer.fronts.iter().map(|front| front.len()).collect();
+    let sheets = lent(&needs);
+    let held = short(&sheets, &needs);
+    if held.lowest() > 0 {
+        return Expected { number: 7, count: 0, fronts: vec![], sheets, held };
+    }
+    Expected { number: 0, count: answer.count, fronts: answer.fronts, sheets, held }
+}
+
+/// The sign of a zero is set aside, and one NaN is as good as another.
+fn same(expected: f64, got: f64) -> bool {
+    expected == got || (expected.is_nan() && got.is_nan())
+}
+
+/// The first difference between what a call did and what it must do.
+fn difference(
+    op: &Op,
+    site: &Site,
+    args: &Args,
+    expected: &Expected,
+    memory: &Memory,
+    answer: u64,
+) -> Option<(String, String)> {
+    let show = |number: u64, count: u64| format!("number {}, count {}", number, count);
+    let due = show(u64::from(expected.number), expected.count);
+    if answer != u64::from(expected.number) + 256 * expected.count {
+        return Some((due, show(answer % 256, answer / 256)));
+    }
+    for (sheet, &(name, word)) in op.sheets.iter().enumerate() {
+        let front = expected.fronts.get(sheet);
+        if let Some(words) = front.and_then(|front| wrong_word(front, memory, sheet)) {
+            return Some((format!("{}, {} {}", due, name, words.0), words.1));
+        }
+        let length = front.map_or(0, |front| front.len() * word.size());
+        if let Some(place) = memory.stray(sheet, length) {
+            let kept = format!("{}, {} unchanged but for its first {} bytes", due, name, length);
+            return Some((kept, format!("byte {} of {} moved", place, name)));
+        }
+    }
+    if let Some(slice) = memory.moved_network(&site.lent) {
+        return Some((due, format!("{} moved", SLICE_NAMES[slice])));
+    }
+    for (list, bytes) in args.lists.iter().enumerate() {
+        if memory.list_moved(list, bytes) {
+            return Some((due, format!("{} moved", op.lists[list].0)));
+        }
+    }
+    None
+}
+
+fn wrong_word(front: &Front, memory: &Memory, sheet: usize) -> Option<(String, String)> {
+    match front {
+        Front::U32(words) => {
+            let got = memory.front(sheet, 4 * words.len());
+            let place = (0..words.len()).find(|&place| word(got, place) != words[place])?;
+            let due = format!("word {} is {}", place, words[place]);
+            Some((due, word(got, place).to_string()))
+        }
+        Front::F64(words) => {
+            let got = memory.front(sheet, 8 * words.len());
+            let wrong = |&place: &usize| !same(words[place], double(got, place));
+            let place = (0..words.len()).find(wrong)?;
+            let show = |x: f64| format!("{:016x} ({:e})", x.to_bits(), x);
+            let due = format!("word {} is {}", place, show(words[place]));
+            Some((due, show(double(got, place))))
+        }
+    }
+}
+
+/// Makes one call on a network that `memory` holds and checks all that it did.
+pub fn check(
+    place: usize,
+    site: &Site,
+    args: &Args,
+    memory: &mut Memory,
+    rng: &mut Rng,
+    cover: Option<&mut Coverage>,
+) -> Option<Mismatch> {
+    let op = &OPS[place];
+    let expected = expect(op, site, args);
+    for (list, bytes) in args.lists.iter().enumerate() {
+        memory.fill_list(list, bytes);
+    }
+    for (sheet, &length) in expected.sheets.iter().enumerate() {
+        memory.fill_sheet(sheet, length, rng);
+    }
+    memory.watch(op.name, args.index, args.bits);
+    let answer = (op.invoke)(memory, args);
+    if let Some(cover) = cover {
+        mark_call(place, site, args, &expected, cover);
+    }
+    let (due, got) = difference(op, site, args, &expected, memory, answer)?;
+    memory.fill_network(&site.lent);
+    Some(Mismatch {
+        op: place,
+        lent: site.lent.clone(),
+        args: args.clone(),
+        sheets: expected.sheets,
+        number: expected.number,
+        expected: due,
+        got,
+        origin: String::new(),
+    })
+}

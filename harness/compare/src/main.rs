@@ -1,0 +1,287 @@
+//! Compares the static library's exports with the original Rust and with the paper's
+//! number table, on generated networks, good and damaged.
+
+mod abi;
+mod calls;
+mod damage;
+mod generate;
+mod marks;
+#[cfg(feature = "mock")]
+mod mock;
+mod paper;
+mod random;
+mod report;
+mod shrink;
+#[cfg(target_os = "linux")]
+mod watch;
+
+use std::process::ExitCode;
+use std::time::{Duration, Instant};
+
+use abi::Memory;
+use calls::{check, Op, Site, OPS};
+use damage::{Damage, Place};
+use marks::mark_network;
+use paper::{bytes_of_doubles, bytes_of_words, Lent};
+use random::Rng;
+use report::{Coverage, Mismatch, FLOOR};
+
+const HELP: &str = "\
+compare: runs the exports beside the original Rust on generated networks
+
+  --cases N     at least N good and N damaged networks (200000)
+  --seconds N   stop after N seconds, which is a failure before --cases is reached (240)
+  --seed S      another seed gives other networks (1)
+  --quick       neither the time bound nor the coverage floors count as failures
+  --help        this text
+
+Prints what was covered and one summary line. Exit code 0 if every call did what it must.";
+
+struct Options {
+    cases: u64,
+    seconds: u64,
+    seed: u64,
+    quick: bool,
+}
+
+fn options() -> Result<Option<Options>, String> {
+    let mut options = Options { cases: 200_000, seconds: 240, seed: 1, quick: false };
+    let mut words = std::env::args().skip(1);
+    while let Some(option) = words.next() {
+        let mut number = || -> Result<u64, String> {
+            let word = words.next().ok_or(format!("{} needs a number", option))?;
+            word.parse().map_err(|_| format!("{} is not a number", word))
+        };
+        match option.as_str() {
+            "--cases" => options.cases = number()?,
+            "--seconds" => options.seconds = number()?,
+            "--seed" => options.seed = number()?,
+            "--quick" => options.quick = true,
+            "--help" | "-h" => return Ok(None),
+            _ => return Err(format!("unknown option {}", option)),
+        }
+    }
+    Ok(Some(options))
+}
+
+/// After the first mismatch, so many more networks are searched for a smaller one.
+const FURTHER: u64 = 4_000;
+
+struct Run {
+    seed: u64,
+    memory: Memory,
+    cover: Coverage,
+    damages: Vec<Damage>,
+    pairs: Vec<(usize, usize)>,
+    good: u64,
+    damaged: u64,
+    calls: u64,
+    mismatches: u64,
+    smallest: Option<Mismatch>,
+}
+
+impl Run {
+    fn new(seed: u64) -> Run {
+        let damages = damage::all();
+        let count = damages.len();
+        let pairs = (0..count).flat_map(|b| (0..b).map(move |a| (a, b))).collect();
+        Run {
+            seed,
+            memory: Memory::new(seed),
+            cover: Coverage::new(count),
+            damages,
+            pairs,
+            good: 0,
+            damaged: 0,
+            calls: 0,
+            mismatches: 0,
+            smallest: None,
+        }
+    }
+
+    fn one_good(&mut self, serial: u64) {
+        let case = 2 * serial;
+        let mut rng = self.case(case);
+        let sizes = generate::sizes(&mut rng, serial);
+        let lent = generate::parts(&mut rng, &sizes).encode();
+        let site = Site::new(lent);
+        assert!(site.held.lowest() == 0, "case {}: a good network is accepted", case);
+        self.visit(&site, case, &mut rng, |op| op.rounds);
+    }
+
+    /// Two of three serial numbers break one rule, the third breaks two.
+    fn one_damaged(&mut self, serial: u64) {
+        let case = 2 * serial + 1;
+        let mut rng = self.case(case);
+        let third = (serial / 3) as usize;
+        if serial % 3 < 2 {
+            let turn = 2 * third + (serial % 3) as usize;
+            let kind = turn % self.damages.len();
+            let place = Place::ALL[turn / self.damages.len() % 3];
+            let site = self.damage(serial, &mut rng, &[(kind, place)]);
+            let damage = self.damages[kind];
+            let number = site.held.lowest();
+            assert!(number == damage.number(), "case {}: {} gives {}", case, damage.name(), number);
+            self.cover.hit_alone(kind, place);
+            self.visit(&site, case, &mut rng, |_| 1);
+        } else {
+            // A step that shares no factor with the number of pairs meets them all.
+            let pair = third.wrapping_mul(1_000_003) % self.pairs.len();
+            let (first, second) = self.pairs[pair];
+            let places = (rng.pick(&Place::ALL), rng.pick(&Place::ALL));
+            let site = self.damage(serial, &mut rng, &[(first, places.0), (second, places.1)]);
+            self.cover.hit_pair(pair, first, second);
+            self.visit(&site, case, &mut rng, |_| 1);
+        }
+    }
+
+    fn case(&self, case: u64) -> Rng {
+        #[cfg(target_os = "linux")]
+        watch::note_case(case);
+        Rng::new(self.seed, case)
+    }
+
+    /// A network with these damages: first sizes, then words, then lengths.
+    fn damage(&self, serial: u64, rng: &mut Rng, kinds: &[(usize, Place)]) -> Site {
+        let mut sizes = generate::sizes(rng, serial);
+        for &(kind, place) in kinds {
+            self.damages[kind].size_up(place, &mut sizes);
+        }
+        sizes.fit();
+        let mut parts = generate::parts(rng, &sizes);
+        for &(kind, place) in kinds {
+            self.damages[kind].break_parts(place, rng, &mut parts);
+        }
+        let mut lent = parts.encode();
+        for &(kind, _) in kinds {
+            self.damages[kind].break_slices(rng, &mut lent);
+        }
+        Site::new(lent)
+    }
+
+    /// Makes every call on a network.
+    fn visit(&mut self, site: &Site, case: u64, rng: &mut Rng, rounds: fn(&Op) -> usize) {
+        if site.held.lowest() == 0 {
+            self.good += 1;
+        } else {
+            self.damaged += 1;
+        }
+        mark_network(site, &mut self.cover);
+        self.memory.fill_network(&site.lent);
+        for (place, op) in OPS.iter().enumerate() {
+            for _ in 0..rounds(op) {
+                let args = op.draw(site, rng);
+                let cover = Some(&mut self.cover);
+                self.calls += 1;
+                if let Some(found) = check(place, site, &args, &mut self.memory, rng, cover) {
+                    self.keep(found, case);
+                }
+            }
+        }
+    }
+
+    fn keep(&mut self, mut found: Mismatch, case: u64) {
+        self.mismatches += 1;
+        found.origin = format!("seed {}, case {}", self.seed, case);
+        if self.smallest.as_ref().map_or(true, |least| found.size() < least.size()) {
+            self.smallest = Some(found);
+        }
+    }
+
+    /// The paper's bench network and the network without anything.
+    fn fixed(&mut self) {
+        let (bench, _) = oracle::bench_network();
+        let bench = Lent {
+            wiring: bytes_of_words(&bench.wiring),
+            readings: bytes_of_doubles(&bench.readings),
+            term_index: bytes_of_words(&bench.term_index),
+            term_coefficient: bytes_of_doubles(&bench.term_coefficient),
+        };
+        let empty = Lent {
+            wiring: bytes_of_words(&[0; paper::HEAD]),
+            readings: bytes_of_doubles(&[100.0]),
+            ..Lent::default()
+        };
+        for lent in [bench, empty] {
+            let site = Site::new(lent);
+            assert!(site.held.lowest() == 0, "a fixed network is accepted");
+            let mut rng = Rng::new(self.seed, u64::MAX - 1);
+            self.visit(&site, 0, &mut rng, |_| 20);
+        }
+    }
+}
+
+/// Runs to the end, the time bound, or a while after the first mismatch.
+fn run(options: &Options, run: &mut Run) -> bool {
+    let until = Instant::now() + Duration::from_secs(options.seconds);
+    run.fixed();
+    let mut serial = 0;
+    let mut last = u64::MAX;
+    while run.good < options.cases || run.damaged < options.cases {
+        if Instant::now() >= until {
+            return false;
+        }
+        if serial >= last {
+            break;
+        }
+        run.one_good(serial);
+        run.one_damaged(serial);
+        serial += 1;
+        if run.mismatches > 0 && last == u64::MAX {
+            last = serial + FURTHER;
+        }
+    }
+    true
+}
+
+fn compare(options: &Options) -> bool {
+    #[cfg(target_os = "linux")]
+    watch::start(options.seconds.saturating_add(30).min(1 << 30) as u32);
+    let start = Instant::now();
+    let mut tally = Run::new(options.seed);
+    let in_time = run(options, &mut tally);
+    let time = start.elapsed();
+    let low = tally.cover.print(&tally.damages);
+    if let Some(mismatch) = tally.smallest.take() {
+        shrink::shrink(mismatch, &mut tally.memory, options.seed).print();
+    }
+    if low > 0 {
+        println!("coverage: {} rows below the floor of {}", low, FLOOR);
+    }
+    if !in_time {
+        println!("stopped by the time bound of {} seconds", options.seconds);
+    }
+    println!(
+        "time: {:.1} s, {:.2} us a call with its check",
+        time.as_secs_f64(),
+        time.as_secs_f64() * 1e6 / tally.calls.max(1) as f64
+    );
+    println!(
+        "compare: {} good and {} damaged networks, {} calls, {} mismatches",
+        tally.good, tally.damaged, tally.calls, tally.mismatches
+    );
+    tally.mismatches == 0 && (options.quick || (low == 0 && in_time))
+}
+
+fn main() -> ExitCode {
+    let options = match options() {
+        Ok(Some(options)) => options,
+        Ok(None) => {
+            println!("{}", HELP);
+            return ExitCode::SUCCESS;
+        }
+        Err(error) => {
+            eprintln!("compare: {}; --help shows the options", error);
+            return ExitCode::from(2);
+        }
+    };
+    if let Err(error) = oracle::self_test() {
+        println!("compare: the oracle fails its own test: {}", error);
+        return ExitCode::FAILURE;
+    }
+    if compare(&options) {
+        ExitCode::SUCCESS
+    } else {
+        ExitCode::FAILURE
+    }
+}

@@ -1,0 +1,42 @@
+// A child of the original's problem/dc.rs: it sees that file's private items.
+
+use super::{read_dc_solution, LinearRowIndex, OpfLayout, RawSolution};
+use crate::{Layout, Oracle};
+
+impl Oracle {
+    pub fn layout(&self) -> Layout {
+        let (dc, lay) = (&self.dc, OpfLayout::dc(&self.dc));
+        let linear = |index: &LinearRowIndex| [index.upper, index.lower, index.equality];
+        Layout {
+            columns: lay.nvar(),
+            rows: lay.ncon(),
+            thermal: (0..dc.m)
+                .map(|e| lay.r_lineub(e).zip(lay.r_linelb(e)))
+                .collect(),
+            generator: (0..dc.k)
+                .map(|j| lay.r_genub(j).zip(lay.r_genlb(j)))
+                .collect(),
+            shed: (0..dc.n)
+                .map(|i| lay.r_shedub(i).zip(lay.r_shedlb(i)))
+                .collect(),
+            angle: (0..dc.m)
+                .map(|e| lay.r_phaseub(e).zip(lay.r_phaselb(e)))
+                .collect(),
+            shed_column: (0..dc.n).map(|i| lay.col_psh(i)).collect(),
+            cost_column: (0..dc.k).map(|j| lay.col_cost(j)).collect(),
+            segment_start: (0..dc.k).map(|j| lay.r_cost_segment(j, 0)).collect(),
+            linear: lay.linear_rows.iter().map(linear).collect(),
+        }
+    }
+
+    /// A solution sheet from a solver's primal and dual columns and its objective.
+    pub fn read_dc_solution(&self, x: &[f64], z: &[f64], objective: f64) -> Vec<f64> {
+        let raw = RawSolution {
+            x: x.to_vec(),
+            z: z.to_vec(),
+            objective,
+            iterations: Vec::new(),
+        };
+        self.sheet(&read_dc_solution(&self.dc, &raw))
+    }
+}

@@ -1,0 +1,4 @@
+#[test]
+fn start_up_tests_hold() {
+    oracle::self_test().unwrap();
+}

@@ -1,0 +1,74 @@
+// Numbers of one element.
+use crate::answer::answered;
+use crate::answer::cells_for;
+use crate::decode::take_network;
+use model::dc::shed_cap;
+ghost use mathlib.Core.Path.{_≡_};
+ghost use mathlib.Core.Bool.{true};
+ghost use lib.ListN.{length};
+ghost use Rattle.words.specs.Words.{doublesOf};
+ghost use Rattle.model.specs.Numbers.{lent};
+ghost use Rattle.model.specs.Calls.{shedCapCall};
+ghost use Rattle.capi.specs.Exports.{out, allWhole, decoded, filledOut};
+ghost use Rattle.capi.specs.Decoding.{Cells};
+
+fn shed_cap_out(
+    wiring: &[u32],
+    readings: &[f64],
+    term_index: &[u32],
+    term_coefficient: &[f64],
+    bus: usize,
+    cells: &mut [f64],
+    sheet: &mut [u8],
+) -> u64
+    requires { ⌜ Cells 1 (length (now sheet)) (length (now cells)) ⌝ }
+    ensures { λ a. ⌜ out a (now (sheet .exit)) ≡ filledOut true (shedCapCall (lent (wiring .entry) (readings .entry) («term_index» .entry) («term_coefficient» .entry)) bus (doublesOf (now (sheet .entry)))) (now (sheet .entry)) ⌝ }
+{
+    let a = shed_cap(wiring, readings, term_index, term_coefficient, bus, cells);
+    answered(a.number, a.count, cells, sheet)
+}
+
+#[no_mangle]
+pub extern "C" fn capi_shed_cap(
+    wiring: &[u8],
+    readings: &[u8],
+    term_index: &[u8],
+    term_coefficient: &[u8],
+    bus: usize,
+    sheet: &mut [u8],
+) -> u64
+    ensures { λ a. ⌜ out a (now (sheet .exit)) ≡ filledOut (allWhole (wiring .entry) (readings .entry) («term_index» .entry) («term_coefficient» .entry)) (shedCapCall (decoded (wiring .entry) (readings .entry) («term_index» .entry) («term_coefficient» .entry)) bus (doublesOf (now (sheet .entry)))) (now (sheet .entry)) ⌝ }
+{
+    let mut w = [0u32; 3033];
+    let mut r = [0.0; 8065];
+    let mut i = [0u32; 1024];
+    let mut k = [0.0; 1024];
+    let l = take_network(
+        wiring,
+        readings,
+        term_index,
+        term_coefficient,
+        &mut w,
+        &mut r,
+        &mut i,
+        &mut k,
+    );
+    if !l.ok {
+        return 1;
+    }
+    let a = l.wiring;
+    let b = l.readings;
+    let c = l.indexes;
+    let d = l.coefficients;
+    let mut cells = [0.0; 1];
+    let n = cells_for(sheet.len(), 1);
+    shed_cap_out(
+        &w[..a],
+        &r[..b],
+        &i[..c],
+        &k[..d],
+        bus,
+        &mut cells[..n],
+        sheet,
+    )
+}

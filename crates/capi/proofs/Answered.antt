@@ -12,7 +12,7 @@ use lib.Ieee.{Float}
 use borrow.Author.Tests.{lt-ltb, le-ltb, ltb-false, eqb-true, not-true}
 use Rattle.sequence.specs.Lists.{front, made}
 use Rattle.sequence.specs.Answers.{Test, test, firstOf, marked, short, Filled, filled, fills}
-use Rattle.sequence.proofs.Lists.{made-length}
+use Rattle.sequence.proofs.Lists.{and-left, and-right, failed, held as kept, made-length}
 use Rattle.sequence.proofs.Answers.{holding, first-stands, first-passes}
 use Rattle.words.specs.Words.{doubleAt, doublesOf, doubleBytes, joined}
 use Rattle.words.proofs.Laws.{take-front}
@@ -20,9 +20,9 @@ use Rattle.model.specs.Numbers.{Network, networkTests, networkNumber, sizesHold
 use Rattle.model.specs.Calls.{counted, elementNumber, elementCall, sheetNumber, busCall}
 use Rattle.model.proofs.Tests.{number-size, sized-few}
 use Rattle.capi.specs.declared.Lengths.{Lengths}
-use Rattle.capi.specs.Exports.{Out, out, filledOut}
-use Rattle.capi.specs.Decoding.{Arrays, Read, Cells}
-use Rattle.capi.proofs.Decoded.{never, contrary}
+use Rattle.capi.specs.Exports.{Out, out, whole, filledOut}
+use Rattle.capi.specs.Decoding.{fits, Arrays, Read, Cells}
+use Rattle.capi.proofs.Decoded.{never, contrary, fits-of, whole-of}
 
 -- ---- a result's bytes do not depend on the sheet that it is cut from
 
@@ -173,3 +173,56 @@ number-one {ok} {N} r h = number-by N ok (r .refused (not-true _ h))
 
 pub number-told : {b : Bool} {M N : Network} → b ≡ true → M ≡ N → networkNumber M ≡ cond b (networkNumber N) 1
 number-told e q = rw (e, q)
+
+-- ---- a call with flows and powers of its own
+
+abbrev whole-with : Bool → List ℕ → List ℕ → Bool
+whole-with ok f pg = ok && (whole 8 f && whole 8 pg)
+
+abbrev sized-with : Network → List ℕ → List ℕ → Bool
+sized-with N f pg = sizesHold N && (eqb (length (doublesOf f)) (counted N .branches) && eqb (length (doublesOf pg)) (counted N .generators))
+
+module _ (N : Network) (ok : Bool) (f pg : List ℕ) where
+  module _ (e : whole-with ok f pg && sized-with N f pg ≡ true) where
+    wholes-hold : whole-with ok f pg ≡ true
+    wholes-hold = and-left (whole-with ok f pg) (sized-with N f pg) e
+
+    own-wholes : whole 8 f && whole 8 pg ≡ true
+    own-wholes = and-right ok _ wholes-hold
+
+    sizes-hold : sized-with N f pg ≡ true
+    sizes-hold = and-right (whole-with ok f pg) (sized-with N f pg) e
+
+    sized : sizesHold N ≡ true
+    sized = and-left (sizesHold N) _ sizes-hold
+
+    own-sizes : eqb (length (doublesOf f)) (counted N .branches) && eqb (length (doublesOf pg)) (counted N .generators) ≡ true
+    own-sizes = and-right (sizesHold N) _ sizes-hold
+
+    both : ok && sizesHold N ≡ true
+    both = rw (and-left ok _ wholes-hold, sized)
+
+    flows-fit : fits 8 f 512 ≡ true
+    flows-fit =
+        let l : length (doublesOf f) ≡ counted N .branches = eqb-true _ _ (and-left (eqb (length (doublesOf f)) (counted N .branches)) _ own-sizes) in
+        fits-of 8 f 512 (and-left (whole 8 f) _ own-wholes) (omega (arith, sized-few N sized .branches, made-length (doubleAt f) (length f / 8)))
+
+    powers-fit : fits 8 pg 256 ≡ true
+    powers-fit =
+        let l : length (doublesOf pg) ≡ counted N .generators = eqb-true _ _ (and-right (eqb (length (doublesOf f)) (counted N .branches)) _ own-sizes) in
+        fits-of 8 pg 256 (and-right (whole 8 f) _ own-wholes) (omega (arith, sized-few N sized .generators, made-length (doubleAt pg) (length pg / 8)))
+
+  pub unsized-with : {l : Lengths} {A : Arrays} → Read ok N l A → not (l .ok) ≡ true → whole-with ok f pg && sized-with N f pg ≡ false
+  unsized-with r h = contrary _ _ both (r .refused (not-true _ h))
+
+  pub unsized-flows : {r : Bool} → r ≡ fits 8 f 512 → not r ≡ true → whole-with ok f pg && sized-with N f pg ≡ false
+  unsized-flows e h = contrary _ _ flows-fit (failed e h)
+
+  pub unsized-powers : {r : Bool} → r ≡ fits 8 pg 256 → not r ≡ true → whole-with ok f pg && sized-with N f pg ≡ false
+  unsized-powers e h = contrary _ _ powers-fit (failed e h)
+
+  pub wholly : ok ≡ true → {r s : Bool} → r ≡ fits 8 f 512 → not r ≡ false → s ≡ fits 8 pg 256 → not s ≡ false → whole-with ok f pg ≡ true
+  wholly o e h d g = rw (o, whole-of 8 f 512 (kept e h), whole-of 8 pg 256 (kept d g))
+
+pub told-with : (g : Bool → Network → List Float → List Float → Out) {b : Bool} {M N : Network} {F F′ P P′ : List Float} → b ≡ true → M ≡ N → F ≡ F′ → P ≡ P′ → g true M F P ≡ g b N F′ P′
+told-with g e q r s = rw (e, q, r, s)

@@ -37,7 +37,7 @@ long k b most h l = rw (eq-eqb (length b % k) 0 h, lt-leb (length b / k) most l)
 pub fitting : (k : ℕ) (b : List ℕ) (most : ℕ) → length b % k ≡ 0 → length b / k ≤ most → true ≡ fits k b most
 fitting k b most h l = rw (eq-eqb (length b % k) 0 h, le-leb (length b / k) most l)
 
-fits-of : (k : ℕ) (b : List ℕ) (most : ℕ) → whole k b ≡ true → length b / k ≤ most → fits k b most ≡ true
+pub fits-of : (k : ℕ) (b : List ℕ) (most : ℕ) → whole k b ≡ true → length b / k ≤ most → fits k b most ≡ true
 fits-of k b most h l = rw (h, le-leb (length b / k) most l)
 
 pub held : {A : Type 0} (f : ℕ → A) (n : ℕ) (old : List A) {new : List A} → n ≤ length old → length new ≡ length old → new ≡ front (made f n) old → Held (made f n) n new

@@ -1,5 +1,6 @@
 // The calls as extern "C" functions on numbers and byte slices, for programs in other languages.
 mod answer;
+mod buses;
 mod decode;
 mod element;
 mod network;

@@ -1,6 +1,6 @@
 -- What each public call answers and leaves, for every input: numbers in 01's order, counts, and the words of its sheets. Assumes nothing.
 use Prim.Native.Nat.{ℕ}
-use mathlib.Core.Bool.{Bool, true, _&&_}
+use mathlib.Core.Bool.{Bool, true, cond, _&&_}
 use mathlib.Core.List.{List, [], _∷_, _++_}
 use lib.ListN.{length}
 use lib.Dec.{eqb, leb}
@@ -10,9 +10,11 @@ use Rattle.sequence.specs.Lists.{made}
 use Rattle.sequence.specs.Answers.{Test, test, firstOf, short, Filled, fills}
 use Rattle.sequence.specs.Sheets.{Triplet, Laid, lays, shortList}
 use Rattle.model.specs.declared.Counts.{Counts}
+use Rattle.model.specs.declared.RowKind.{RowKind}
 use Rattle.model.specs.Layout.{countsOf}
 use Rattle.model.specs.Numbers.{Network, networkTests, allWithin}
 use Rattle.model.specs.Quantities.{shedCap, flowOffset, phase, networkAt, fixedAt, generatorCost, evaluate}
+use Rattle.model.specs.Rows.{rowLimits, kindOf}
 use Rattle.model.specs.Susceptance.{susceptanceCoo}
 
 -- the network's counts
@@ -43,6 +45,18 @@ abbrev pub evaluateCall : Network → ℕ → List Float → List Float → List
 evaluateCall N q f pg sheet =
     elementCall N (eqb (length f) (counted N .branches) && eqb (length pg) (counted N .generators)) (allWithin sheetLimit f && allWithin sheetLimit pg) q (counted N .rows)
     (evaluate (counted N) (N .wiring) (N .indexes) (N .coefficients) q f pg) sheet
+
+-- which limits a row has: their number, and the row's kind
+unfoldable pub rowKindNumber : Network → ℕ → ℕ
+rowKindNumber N q = firstOf (networkTests N true true ++ test 5 (leb (counted N .rows) q) ∷ [])
+
+abbrev pub rowKind : ℕ → ℕ → RowKind
+rowKind n k = record { number = n; kind = k }
+
+unfoldable pub rowKindCall : Network → ℕ → RowKind
+unfolding rowKindNumber
+rowKindCall N q =
+    cond (eqb (rowKindNumber N q) 0) (rowKind 0 (kindOf (rowLimits (counted N) (N .wiring) (N .readings) q))) (rowKind (rowKindNumber N q) 0)
 
 -- a call for a number for every bus
 unfoldable pub sheetNumber : Network → List Float → List Float → ℕ

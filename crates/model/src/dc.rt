@@ -1,10 +1,12 @@
 // model/dc.rs's quantities as public calls. Each tests the whole network, answers 01's number and a
 // count, and fills the front of the sheet that it is lent; a refusal changes no word.
+use crate::RowKind;
 use crate::check::all_within;
 use crate::check::is_raw;
 use crate::check::network_number_with;
 use crate::cost::generator_cost_at;
 use crate::layout::counts;
+use crate::rows::row_limits;
 use crate::terms::evaluate_at;
 use crate::withdrawal::fixed_into;
 use crate::withdrawal::flow_offset_at;
@@ -21,7 +23,7 @@ ghost use lib.ListN.{length};
 ghost use Rattle.sequence.specs.Answers.{filled};
 ghost use Rattle.float64.specs.Values.{sheetLimit};
 ghost use Rattle.model.specs.Numbers.{lent, allWithin};
-ghost use Rattle.model.specs.Calls.{shedCapCall, flowOffsetCall, generatorCostCall, evaluateCall, phaseCall, networkCall, fixedCall};
+ghost use Rattle.model.specs.Calls.{shedCapCall, flowOffsetCall, generatorCostCall, evaluateCall, phaseCall, networkCall, fixedCall, rowKindCall};
 
 // The phase-shift withdrawal of every bus.
 pub fn phase_withdrawal(
@@ -288,5 +290,29 @@ pub fn evaluate(
     Answer {
         number: 0,
         count: 1,
+    }
+}
+
+// Which limits a linear row has: 0 none, 1 an upper, 2 a lower, 3 both, 4 an equality.
+pub fn row_kind(
+    wiring: &[u32],
+    readings: &[f64],
+    term_index: &[u32],
+    term_coefficient: &[f64],
+    row: usize,
+) -> RowKind
+    ensures { λ a. ⌜ a ≡ rowKindCall (lent (wiring .entry) (readings .entry) («term_index» .entry) («term_coefficient» .entry)) row ⌝ }
+{
+    let number = network_number_with(wiring, readings, term_index, term_coefficient, true, true);
+    if number != 0 {
+        return RowKind { number, kind: 0 };
+    }
+    let c = counts(wiring);
+    if c.rows <= row {
+        return RowKind { number: 5, kind: 0 };
+    }
+    RowKind {
+        number: 0,
+        kind: row_limits(wiring, readings, c, row).kind(),
     }
 }

@@ -66,3 +66,9 @@ pub enum RowLimits {
     Both(f64, f64),
     Equal(f64),
 }
+
+// Which limits a linear row has, as numbers: 0, or why there is no answer; and the row's kind.
+pub struct RowKind {
+    pub number: u32,
+    pub kind: u32,
+}

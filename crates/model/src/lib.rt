@@ -1,5 +1,6 @@
 // The network model: layouts by name, numbers 1 to 3, and model/dc.rs's quantities.
 pub mod layout;
+pub mod susceptance;
 
 // n, m, k, R, S, q, T.
 pub struct Counts {

@@ -57,7 +57,7 @@ ends-turn {c} {w} e a z {head} {next} {h₁} {n₁} y ph pn p q ea ez l e₁ f�
     let lh : length h₁ ≡ length head = rw e₁ (length-set head a (2 * (e - 1) + 1)) in
     let ln : length n₁ ≡ length next = rw f₁ (length-set next (2 * (e - 1) + 1) (getD head a 0)) in
     let l₁ : Links (endAt c w) (c .buses) (2 * c .branches) (2 * (e - 1) + 1) h₁ n₁ =
-        rw (e₁, f₁, ← ka) (links-more {head = head} {next = next} ba ph (omega arith) (omega arith) (rw s l)) in
+    rw (e₁, f₁, ← ka) (links-more {head = head} {next = next} ba ph (omega arith) (omega arith) (rw s l)) in
     rw (e₂, f₂, ← kz) (links-more {head = h₁} {next = n₁} bz (omega arith) (omega arith) (omega arith) l₁)
 
 -- bus i is at one of the ends of its chain's branches
@@ -189,7 +189,6 @@ module _ {A : Type 0} (c : Counts) (w : List ℕ) (i : ℕ) (turn : ℕ → A �
       go e a true false ep eq = refl
       go e a false true ep eq = refl
       go e a false false ep eq = sym (h e a ep eq)
-
 
 -- a branch with no end at i leaves row i alone
 alike : {A : Type 0} (b : Bool) (a : A) → cond b a a ≡ a

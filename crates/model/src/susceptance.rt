@@ -2,8 +2,14 @@
 use crate::Counts;
 use crate::Field;
 use crate::Part;
-use crate::layout::{reading, wide, word};
-use sequence::{Item, fill, least, push, put};
+use crate::layout::reading;
+use crate::layout::wide;
+use crate::layout::word;
+use sequence::Item;
+use sequence::fill;
+use sequence::least;
+use sequence::push;
+use sequence::put;
 ghost use mathlib.Core.Path.{_≡_};
 ghost use mathlib.Core.Bool.{true, false, not, _||_};
 ghost use Prim.Native.Nat.{ℕ, _+_, _*_, _/_, _<_, _≤_};
@@ -103,7 +109,15 @@ fn takes(i: usize, x: usize, p: usize) -> bool
 }
 
 // End x of bus i's chain, into row i.
-fn end_step(wiring: &[u32], readings: &[f64], c: Counts, i: usize, x: usize, acc: &mut [f64], hit: &mut [u32])
+fn end_step(
+    wiring: &[u32],
+    readings: &[f64],
+    c: Counts,
+    i: usize,
+    x: usize,
+    acc: &mut [f64],
+    hit: &mut [u32],
+)
     requires { ⌜ Wired c (now wiring) ⌝ }
     requires { ⌜ ReadingsLaid c (now readings) ⌝ }
     requires { ⌜ RowRoom (c .buses) (now acc) (now hit) ⌝ }
@@ -120,7 +134,16 @@ fn end_step(wiring: &[u32], readings: &[f64], c: Counts, i: usize, x: usize, acc
 }
 
 // The ends of bus i's chain, and no other branch, into row i.
-fn walk(wiring: &[u32], readings: &[f64], c: Counts, head: &[u32], next: &[u32], i: usize, acc: &mut [f64], hit: &mut [u32])
+fn walk(
+    wiring: &[u32],
+    readings: &[f64],
+    c: Counts,
+    head: &[u32],
+    next: &[u32],
+    i: usize,
+    acc: &mut [f64],
+    hit: &mut [u32],
+)
     requires { ⌜ Wired c (now wiring) ⌝ }
     requires { ⌜ ReadingsLaid c (now readings) ⌝ }
     requires { ⌜ Chains c (now wiring) (now head) (now next) ⌝ }
@@ -148,7 +171,16 @@ fn blank(acc: &mut [f64], n: usize)
 }
 
 // Row i by column, made anew.
-fn make_row(wiring: &[u32], readings: &[f64], c: Counts, head: &[u32], next: &[u32], i: usize, acc: &mut [f64], hit: &mut [u32])
+fn make_row(
+    wiring: &[u32],
+    readings: &[f64],
+    c: Counts,
+    head: &[u32],
+    next: &[u32],
+    i: usize,
+    acc: &mut [f64],
+    hit: &mut [u32],
+)
     requires { ⌜ Wired c (now wiring) ⌝ }
     requires { ⌜ ReadingsLaid c (now readings) ⌝ }
     requires { ⌜ Chains c (now wiring) (now head) (now next) ⌝ }
@@ -173,7 +205,17 @@ fn cell(acc: &[f64], hit: &[u32], i: usize, j: usize) -> Item
     }
 }
 
-fn put_cell(acc: &[f64], hit: &[u32], i: usize, j: usize, rows: &mut [u32], cols: &mut [u32], values: &mut [f64], limit: usize, at: usize) -> usize
+fn put_cell(
+    acc: &[f64],
+    hit: &[u32],
+    i: usize,
+    j: usize,
+    rows: &mut [u32],
+    cols: &mut [u32],
+    values: &mut [f64],
+    limit: usize,
+    at: usize,
+) -> usize
     requires { ⌜ (j < length (now acc)) × (16 + j < length (now hit)) × (i < 256) × (j < 256) ⌝ }
     requires { ⌜ Room limit (held rows cols values at) ⌝ }
     ensures { λ k. ⌜ Puts limit (cellAt (now (acc .entry)) (now (hit .entry)) i j) (held (rows .entry) (cols .entry) (values .entry) at) (held (rows .exit) (cols .exit) (values .exit) k) ⌝ }
@@ -183,7 +225,19 @@ fn put_cell(acc: &[f64], hit: &[u32], i: usize, j: usize, rows: &mut [u32], cols
 }
 
 // Columns a to a + b - 1 of row i, of which none is marked where they are not on.
-fn put_span(on: bool, acc: &[f64], hit: &[u32], i: usize, a: usize, b: usize, rows: &mut [u32], cols: &mut [u32], values: &mut [f64], limit: usize, at: usize) -> usize
+fn put_span(
+    on: bool,
+    acc: &[f64],
+    hit: &[u32],
+    i: usize,
+    a: usize,
+    b: usize,
+    rows: &mut [u32],
+    cols: &mut [u32],
+    values: &mut [f64],
+    limit: usize,
+    at: usize,
+) -> usize
     requires { ⌜ RowRoom (a + b) (now acc) (now hit) ⌝ }
     requires { ⌜ (i < 256) × (at < 0x1000_0000) ⌝ }
     requires { ⌜ (on ≡ false → (j : ℕ) → j < b → markAt (now hit) (a + j) ≡ 0) ⌝ }
@@ -202,7 +256,17 @@ fn put_span(on: bool, acc: &[f64], hit: &[u32], i: usize, a: usize, b: usize, ro
 }
 
 // Row i, by blocks of 16 columns: a block that is not marked is passed over.
-fn put_cells(n: usize, acc: &[f64], hit: &[u32], i: usize, rows: &mut [u32], cols: &mut [u32], values: &mut [f64], limit: usize, at: usize) -> usize
+fn put_cells(
+    n: usize,
+    acc: &[f64],
+    hit: &[u32],
+    i: usize,
+    rows: &mut [u32],
+    cols: &mut [u32],
+    values: &mut [f64],
+    limit: usize,
+    at: usize,
+) -> usize
     requires { ⌜ RowRoom n (now acc) (now hit) ⌝ }
     requires { ⌜ (i < 256) × (at < 0x800_0000) ⌝ }
     requires { ⌜ Covers n (now hit) ⌝ }
@@ -214,13 +278,39 @@ fn put_cells(n: usize, acc: &[f64], hit: &[u32], i: usize, rows: &mut [u32], col
     let blocks = (n + 15) / 16;
     for q in 0..blocks {
         let a = 16 * q;
-        k = put_span(hit[q] != 0, acc, hit, i, a, least(16, n - a), rows, cols, values, limit, k);
+        k = put_span(
+            hit[q] != 0,
+            acc,
+            hit,
+            i,
+            a,
+            least(16, n - a),
+            rows,
+            cols,
+            values,
+            limit,
+            k,
+        );
     }
     k
 }
 
 // Row i, into the sheets.
-fn put_row(wiring: &[u32], readings: &[f64], c: Counts, head: &[u32], next: &[u32], i: usize, acc: &mut [f64], hit: &mut [u32], rows: &mut [u32], cols: &mut [u32], values: &mut [f64], limit: usize, at: usize) -> usize
+fn put_row(
+    wiring: &[u32],
+    readings: &[f64],
+    c: Counts,
+    head: &[u32],
+    next: &[u32],
+    i: usize,
+    acc: &mut [f64],
+    hit: &mut [u32],
+    rows: &mut [u32],
+    cols: &mut [u32],
+    values: &mut [f64],
+    limit: usize,
+    at: usize,
+) -> usize
     requires { ⌜ Wired c (now wiring) ⌝ }
     requires { ⌜ ReadingsLaid c (now readings) ⌝ }
     requires { ⌜ Chains c (now wiring) (now head) (now next) ⌝ }
@@ -235,7 +325,15 @@ fn put_row(wiring: &[u32], readings: &[f64], c: Counts, head: &[u32], next: &[u3
 }
 
 // The susceptance list into three sheets, below a limit: counted always, stored below it.
-pub fn put_susceptance(wiring: &[u32], readings: &[f64], c: Counts, rows: &mut [u32], cols: &mut [u32], values: &mut [f64], limit: usize) -> usize
+pub fn put_susceptance(
+    wiring: &[u32],
+    readings: &[f64],
+    c: Counts,
+    rows: &mut [u32],
+    cols: &mut [u32],
+    values: &mut [f64],
+    limit: usize,
+) -> usize
     requires { ⌜ Wired c (now wiring) ⌝ }
     requires { ⌜ ReadingsLaid c (now readings) ⌝ }
     requires { ⌜ Room limit (held rows cols values 0) ⌝ }
@@ -250,7 +348,21 @@ pub fn put_susceptance(wiring: &[u32], readings: &[f64], c: Counts, rows: &mut [
     let n = c.buses;
     let mut k = 0;
     for i in 0..n {
-        k = put_row(wiring, readings, c, &head, &next, i, &mut acc, &mut hit, rows, cols, values, limit, k);
+        k = put_row(
+            wiring,
+            readings,
+            c,
+            &head,
+            &next,
+            i,
+            &mut acc,
+            &mut hit,
+            rows,
+            cols,
+            values,
+            limit,
+            k,
+        );
     }
     k
 }

@@ -38,9 +38,13 @@ loop-again c =
     let q = c .before .before .before .before in
     let p = q .before .before .before .before .before .before .before .before in
     let l = p .before .before .before .before .before in
-    let s = l .before .before .before .before .before .before .before .before in
-    (ends-turn _ _ _ (s .pre .0) (omega (arith, l)) (omega (arith, l)) (omega (arith, l)) (l .loop .inv .3) (p .before .word .ensures .0) (q .before .word2 .ensures .0) (l .loop .inv .0)
-    (p .push .ensures .0) (p .push .ensures .1) (q .push2 .ensures .0) (q .push2 .ensures .1), omega (arith, q .push2 .kept, p .push .kept, l), omega (arith, q .push2 .kept, p .push .kept, l), omega (arith, l))
+    let s = l .before .before .before .before .before .before .before .before in (
+      ends-turn _ _ _ (s .pre .0) (omega (arith, l)) (omega (arith, l)) (omega (arith, l)) (l .loop .inv .3) (p .before .word .ensures .0) (q .before .word2 .ensures .0) (l .loop .inv .0)
+          (p .push .ensures .0) (p .push .ensures .1) (q .push2 .ensures .0) (q .push2 .ensures .1),
+      omega (arith, q .push2 .kept, p .push .kept, l),
+      omega (arith, q .push2 .kept, p .push .kept, l),
+      omega (arith, l),
+    )
 
 returns : tie.Need-returns Inv-loop μ-loop
 returns c =

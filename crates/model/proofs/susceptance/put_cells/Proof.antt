@@ -27,9 +27,13 @@ put-span-requires : tie.Need-put-span-requires Inv-loop μ-loop
 put-span-requires c κs =
     let b = c .before .before .before .least .ensures in
     let l = c .before .before .before .before .before .before in
-    let s = l .before .before .before .before .before .before in
-    (omega (arith, b, l, s .pre), (omega (arith, b, l, s .pre),
-    ((λ e j h. s .pre .1 .1 .0 (16 * l .loop .q + j) (omega (arith, b)) (let z : (16 * l .loop .q + j) / 16 ≡ l .loop .q = omega (arith, b) in rw z (eqb-true _ _ (not-false _ e)))), omega (arith, b, l, s .pre))))
+    let s = l .before .before .before .before .before .before in (
+      omega (arith, b, l, s .pre),
+      (
+        omega (arith, b, l, s .pre),
+        ((λ e j h. s .pre .1 .1 .0 (16 * l .loop .q + j) (omega (arith, b)) (let z : (16 * l .loop .q + j) / 16 ≡ l .loop .q = omega (arith, b) in rw z (eqb-true _ _ (not-false _ e)))), omega (arith, b, l, s .pre)),
+      ),
+    )
 
 loop-again : tie.Need-loop-again Inv-loop μ-loop
 loop-again c =

@@ -29,9 +29,16 @@ put-row-requires : tie.Need-put-row-requires Inv-loop μ-loop
 put-row-requires c κs =
     let l = c .before .before .before .before .before .before .before .before in
     let e = l .before .before .before in
-    let s = e .before .before .before .before .before .before .before .before in
-    (s .pre .0, (s .pre .1 .0, (record { links = e .link-ends .ensures; heads-fit = omega (arith, e .link-ends .kept, s .pre .0); nexts-fit = omega (arith, e .link-ends .kept, s .pre .0) },
-    (omega (arith, l, s .pre .0), (omega (arith, c, l, s .pre .0), omega (arith, l, s .pre))))))
+    let s = e .before .before .before .before .before .before .before .before in (
+      s .pre .0,
+      (
+        s .pre .1 .0,
+        (
+          record { links = e .link-ends .ensures; heads-fit = omega (arith, e .link-ends .kept, s .pre .0); nexts-fit = omega (arith, e .link-ends .kept, s .pre .0) },
+          (omega (arith, l, s .pre .0), (omega (arith, c, l, s .pre .0), omega (arith, l, s .pre))),
+        ),
+      ),
+    )
 
 add-i : tie.Need-add-i Inv-loop μ-loop
 add-i c =

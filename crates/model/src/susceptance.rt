@@ -12,7 +12,7 @@ use sequence::push;
 use sequence::put;
 ghost use mathlib.Core.Path.{_≡_};
 ghost use mathlib.Core.Bool.{true, false, not, _||_};
-ghost use Prim.Native.Nat.{ℕ, _+_, _*_, _/_, _<_, _≤_};
+ghost use Prim.Native.Nat.{ℕ, _+_, _*_, _<_, _≤_};
 ghost use lib.ListN.{length, getD};
 ghost use lib.Dec.{eqb};
 ghost use lib.Ieee.{nan};
@@ -51,12 +51,14 @@ fn weight(readings: &[f64], c: Counts, e: usize) -> f64
     -reading(readings, c, Field::Susceptance, e) * reading(readings, c, Field::Sw, e)
 }
 
+// x more, where it is met.
 fn add_at(met: bool, x: f64, a: f64) -> f64
     ensures { λ r. ⌜ r ≡ addAt met x a ⌝ }
 {
     if met { a + x } else { a }
 }
 
+// x less, where it is met.
 fn sub_at(met: bool, x: f64, a: f64) -> f64
     ensures { λ r. ⌜ r ≡ subAt met x a ⌝ }
 {
@@ -193,6 +195,7 @@ fn make_row(
     walk(wiring, readings, c, head, next, i, acc, hit);
 }
 
+// Column j of row i, kept where it is marked.
 fn cell(acc: &[f64], hit: &[u32], i: usize, j: usize) -> Item
     requires { ⌜ (j < length (now acc)) × (16 + j < length (now hit)) × (i < 256) × (j < 256) ⌝ }
     ensures { λ t. ⌜ t ≡ item (not (eqb (markAt (now (hit .entry)) j) 0)) i j (getD (now (acc .entry)) j nan) ⌝ }
@@ -203,25 +206,6 @@ fn cell(acc: &[f64], hit: &[u32], i: usize, j: usize) -> Item
         col: j as u32,
         value: acc[j],
     }
-}
-
-fn put_cell(
-    acc: &[f64],
-    hit: &[u32],
-    i: usize,
-    j: usize,
-    rows: &mut [u32],
-    cols: &mut [u32],
-    values: &mut [f64],
-    limit: usize,
-    at: usize,
-) -> usize
-    requires { ⌜ (j < length (now acc)) × (16 + j < length (now hit)) × (i < 256) × (j < 256) ⌝ }
-    requires { ⌜ Room limit (held rows cols values at) ⌝ }
-    ensures { λ k. ⌜ Puts limit (cellAt (now (acc .entry)) (now (hit .entry)) i j) (held (rows .entry) (cols .entry) (values .entry) at) (held (rows .exit) (cols .exit) (values .exit) k) ⌝ }
-    ensures most { λ k. ⌜ k ≤ at + 1 ⌝ }
-{
-    put(rows, cols, values, limit, at, cell(acc, hit, i, j))
 }
 
 // Columns a to a + b - 1 of row i, of which none is marked where they are not on.
@@ -250,7 +234,7 @@ fn put_span(
         return k;
     }
     for j in 0..b {
-        k = put_cell(acc, hit, i, a + j, rows, cols, values, limit, k);
+        k = put(rows, cols, values, limit, k, cell(acc, hit, i, a + j));
     }
     k
 }

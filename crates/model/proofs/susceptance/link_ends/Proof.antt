@@ -1,8 +1,8 @@
 -- `model::susceptance::link_ends` meets its contract: the ends from 2e on are linked. Assumes nothing.
-use Prim.Native.Nat.{ℕ, _+_, _-_, _*_, _≤_, _<_}
-use mathlib.Core.Path.{_≡_, ap, _∙_}
+use Prim.Native.Nat.{_-_, _*_, _≤_}
+use mathlib.Core.Path.{_≡_}
 use native.Mathlib.Omega.{arith}
-use lib.ListN.{length, length-set}
+use lib.ListN.{length}
 use Rattle.sequence.specs.Links.{Links}
 use Rattle.sequence.proofs.Links.{links-none}
 use Rattle.model.specs.Incidence.{endAt}

@@ -1,11 +1,10 @@
 -- `model::susceptance::put_span` meets its contract: a cell more each turn. Assumes nothing.
 use Prim.Native.Nat.{_+_, _-_, _≤_}
-use mathlib.Core.Path.{_≡_}
 use native.Mathlib.Omega.{arith}
 use borrow.Author.Tests.{not-true}
 use Rattle.sequence.specs.Lists.{each}
 use Rattle.sequence.specs.Sheets.{Puts, sheets}
-use Rattle.sequence.proofs.Sheets.{begin, more, done, none}
+use Rattle.sequence.proofs.Sheets.{begin, more, done, none, put-of}
 use Rattle.model.specs.Incidence.{cellAt, spanAt}
 use Rattle.model.proofs.Incidence.{span-none}
 use Rattle.model.proofs.susceptance.put_span.Statement.{statement}
@@ -27,10 +26,11 @@ loop-holds : tie.Need-loop-holds Inv-loop μ-loop
 loop-holds c = (begin _, omega arith, omega arith)
 
 loop-again : tie.Need-loop-again Inv-loop μ-loop
+unfolding cellAt
 loop-again c =
     let p = c .before .before .before .before .before .before in
-    let l = p .before .before .before .before .before in
-    (more _ _ (l .loop .inv .0) (p .put-cell .ensures .0), omega (arith, p, l), omega (arith, p, l))
+    let l = p .before .before .before .before .before .before in
+    (more _ _ (l .loop .inv .0) (put-of (p .before .cell .ensures) (p .put .ensures .0)), omega (arith, p, l), omega (arith, p, l))
 
 returns-2 : tie.Need-returns-2 Inv-loop μ-loop
 unfolding spanAt
@@ -45,6 +45,7 @@ put-span-spec =
     returns
     loop-holds
     (λ c. omega arith)
+    (λ c κs. omega arith)
     (λ c κs. omega arith)
     (λ c. omega arith)
     (λ c. omega arith)

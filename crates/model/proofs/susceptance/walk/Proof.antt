@@ -1,6 +1,6 @@
 -- `model::susceptance::walk` meets its contract: the row after the ends below x. Assumes nothing.
 use Prim.Native.Nat.{_-_, _*_, _≤_, _<_}
-use mathlib.Core.Path.{_≡_, _∙_}
+use mathlib.Core.Path.{_≡_}
 use native.Mathlib.Omega.{arith}
 use lib.ListN.{length}
 use Rattle.sequence.proofs.Links.{head-of, next-of}

@@ -4,3 +4,4 @@ pub mod Tests
 pub mod Calls
 pub mod Runs
 pub mod Withdrawals
+pub mod Incidence

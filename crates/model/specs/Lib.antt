@@ -4,4 +4,5 @@ pub mod Numbers
 pub mod Rows
 pub mod Quantities
 pub mod Susceptance
+pub mod Incidence
 pub mod Calls

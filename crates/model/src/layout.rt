@@ -7,7 +7,7 @@ ghost use Prim.Native.Nat.{_+_, _*_, _<_, _≤_};
 ghost use lib.ListN.{length, getD};
 ghost use Rattle.model.specs.Layout.{countsOf, Few, WiringLaid, ReadingsLaid, partSize, partStart, wire, size, fieldStart, reading, place};
 
-fn wide(x: u32) -> usize
+pub fn wide(x: u32) -> usize
     ensures { λ r. ⌜ (r ≡ x) × (r < 0x1_0000_0000) ⌝ }
 {
     x as usize

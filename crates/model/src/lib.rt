@@ -6,6 +6,7 @@ pub mod layout;
 pub mod rows;
 pub mod terms;
 pub mod withdrawal;
+pub mod susceptance;
 
 // n, m, k, R, S, q, T.
 pub struct Counts {

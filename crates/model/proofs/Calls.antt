@@ -10,9 +10,10 @@ use lib.Ieee.{Float}
 use borrow.Author.Tests.{le-leb, lt-leb, lt-ltb, le-ltb, eqb-true, ne-eqb}
 use Rattle.sequence.specs.Lists.{front, made}
 use Rattle.sequence.specs.Answers.{Test, test, firstOf, marked, filled, fills, short}
-use Rattle.sequence.specs.Sheets.{Triplet, Laid, laid, lays, shortList, room}
+use Rattle.sequence.specs.Sheets.{Triplet, laid, lays, laysIf, shortList}
 use Rattle.sequence.proofs.Lists.{and-left, and-right, made-length}
 use Rattle.sequence.proofs.Answers.{no-test, passed, holding, first-stands, first-passes, fills-refused, fills-done}
+use Rattle.sequence.proofs.Sheets.{lays-refused}
 use Rattle.model.specs.Numbers.{Network, networkTests, sizesHold}
 use Rattle.model.specs.Calls.{counted, elementNumber, elementCall, sheetNumber, busCall, rowKind, rowKindNumber, rowKindCall, listNumber}
 use Rattle.model.specs.Rows.{rowLimits, kindOf}
@@ -112,3 +113,13 @@ module _ (N : Network) (q : ℕ) {k : ℕ} (e : k ≡ firstOf (networkTests N tr
   pub kind-done : k ≡ 0 → q < counted N .rows → {n : ℕ} → n ≡ kindOf (rowLimits (counted N) (N .wiring) (N .readings) q) → rowKind 0 n ≡ rowKindCall N q
   unfolding rowKindCall
   kind-done z h y = rw (kind-number z h, y)
+
+-- a call for a list
+module _ (N : Network) (ts : List Triplet) (R C : List ℕ) (X : List Float) {k : ℕ} (e : k ≡ firstOf (networkTests N true true)) where
+  pub list-refused : (k ≡ 0 → ⊥) → laid k 0 R C X ≡ lays (listNumber N ts R C X) ts R C X
+  unfolding listNumber
+  list-refused h = lays-refused ts R C X (network-stands N true true _ e h) h
+
+  pub list-laid : k ≡ 0 → laysIf ts R C X ≡ lays (listNumber N ts R C X) ts R C X
+  unfolding listNumber firstOf
+  list-laid z = ap (λ (n : ℕ). lays n ts R C X) (sym (network-passes N true true (test 7 (shortList ts R C X) ∷ []) e z))

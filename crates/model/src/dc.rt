@@ -1,5 +1,6 @@
 // model/dc.rs's quantities as public calls. Each tests the whole network, answers 01's number and a
 // count, and fills the front of the sheet that it is lent; a refusal changes no word.
+use crate::Counts;
 use crate::RowKind;
 use crate::check::all_within;
 use crate::check::is_raw;
@@ -7,6 +8,7 @@ use crate::check::network_number_with;
 use crate::cost::generator_cost_at;
 use crate::layout::counts;
 use crate::rows::row_limits;
+use crate::susceptance::put_susceptance;
 use crate::terms::evaluate_at;
 use crate::withdrawal::fixed_into;
 use crate::withdrawal::flow_offset_at;
@@ -15,6 +17,7 @@ use crate::withdrawal::phase_into;
 use crate::withdrawal::shed_cap_at;
 use float64::sheet_limit;
 use sequence::Answer;
+use sequence::room;
 ghost use mathlib.Core.Path.{_≡_};
 ghost use lib.ListN.{getD};
 ghost use mathlib.Core.Bool.{_&&_};
@@ -22,8 +25,11 @@ ghost use lib.Dec.{eqb};
 ghost use lib.ListN.{length};
 ghost use Rattle.sequence.specs.Answers.{filled};
 ghost use Rattle.float64.specs.Values.{sheetLimit};
-ghost use Rattle.model.specs.Numbers.{lent, allWithin};
-ghost use Rattle.model.specs.Calls.{shedCapCall, flowOffsetCall, generatorCostCall, evaluateCall, phaseCall, networkCall, fixedCall, rowKindCall};
+ghost use Rattle.sequence.specs.Sheets.{laid, laysIf};
+ghost use Rattle.model.specs.Layout.{ReadingsLaid};
+ghost use Rattle.model.specs.Numbers.{lent, allWithin, Wired};
+ghost use Rattle.model.specs.Susceptance.{susceptanceCoo};
+ghost use Rattle.model.specs.Calls.{shedCapCall, flowOffsetCall, generatorCostCall, evaluateCall, phaseCall, networkCall, fixedCall, rowKindCall, susceptanceCall};
 
 // The phase-shift withdrawal of every bus.
 pub fn phase_withdrawal(
@@ -315,4 +321,51 @@ pub fn row_kind(
         number: 0,
         kind: row_limits(wiring, readings, c, row).kind(),
     }
+}
+
+// The susceptance list where the sheets hold it: counted first, then written.
+fn lay_susceptance(
+    wiring: &[u32],
+    readings: &[f64],
+    c: Counts,
+    rows: &mut [u32],
+    cols: &mut [u32],
+    values: &mut [f64],
+) -> Answer
+    requires { ⌜ Wired c (now wiring) ⌝ }
+    requires { ⌜ ReadingsLaid c (now readings) ⌝ }
+    ensures { λ a. ⌜ laid (a .number) (a .count) (now (rows .exit)) (now (cols .exit)) (now (values .exit)) ≡ laysIf (susceptanceCoo c (now (wiring .entry)) (now (readings .entry))) (now (rows .entry)) (now (cols .entry)) (now (values .entry)) ⌝ }
+{
+    let cap = room(rows, cols, values);
+    let count = put_susceptance(wiring, readings, c, rows, cols, values, 0);
+    if cap < count {
+        return Answer {
+            number: 7,
+            count: 0,
+        };
+    }
+    let done = put_susceptance(wiring, readings, c, rows, cols, values, count);
+    Answer {
+        number: 0,
+        count: done,
+    }
+}
+
+// The susceptance matrix as triplets, by row, then column.
+pub fn susceptance_coo(
+    wiring: &[u32],
+    readings: &[f64],
+    term_index: &[u32],
+    term_coefficient: &[f64],
+    rows: &mut [u32],
+    cols: &mut [u32],
+    values: &mut [f64],
+) -> Answer
+    ensures { λ a. ⌜ laid (a .number) (a .count) (now (rows .exit)) (now (cols .exit)) (now (values .exit)) ≡ susceptanceCall (lent (wiring .entry) (readings .entry) («term_index» .entry) («term_coefficient» .entry)) (now (rows .entry)) (now (cols .entry)) (now (values .entry)) ⌝ }
+{
+    let number = network_number_with(wiring, readings, term_index, term_coefficient, true, true);
+    if number != 0 {
+        return Answer { number, count: 0 };
+    }
+    lay_susceptance(wiring, readings, counts(wiring), rows, cols, values)
 }

@@ -4,9 +4,9 @@ pub mod cost;
 pub mod dc;
 pub mod layout;
 pub mod rows;
+pub mod susceptance;
 pub mod terms;
 pub mod withdrawal;
-pub mod susceptance;
 
 // n, m, k, R, S, q, T.
 pub struct Counts {

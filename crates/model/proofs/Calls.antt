@@ -14,7 +14,7 @@ use Rattle.sequence.specs.Sheets.{Triplet, laid, lays, laysIf, shortList}
 use Rattle.sequence.proofs.Lists.{and-left, and-right, made-length}
 use Rattle.sequence.proofs.Answers.{no-test, passed, holding, first-stands, first-passes, fills-refused, fills-done}
 use Rattle.sequence.proofs.Sheets.{lays-refused}
-use Rattle.model.specs.Numbers.{Network, networkTests, sizesHold}
+use Rattle.network.specs.Numbers.{Network, networkTests, sizesHold}
 use Rattle.model.specs.Calls.{counted, elementNumber, elementCall, sheetNumber, busCall, rowKind, rowKindNumber, rowKindCall, listNumber}
 use Rattle.model.specs.Rows.{rowLimits, kindOf}
 

@@ -17,10 +17,10 @@ use Rattle.sequence.specs.Sheets.{emit, Sheets, Puts}
 use Rattle.sequence.proofs.Lists.{each-same, each-skip, each-add, turns-more, turns-same, turns-skip, turns-pairs, stored-at}
 use Rattle.sequence.proofs.Links.{links-more}
 use Rattle.sequence.proofs.Sheets.{then}
-use Rattle.model.specs.declared.Counts.{Counts}
-use Rattle.model.specs.declared.Part.the-variants.{BrFrom, BrTo}
-use Rattle.model.specs.Layout.{wire}
-use Rattle.model.specs.Numbers.{Wired}
+use Rattle.network.specs.declared.Counts.{Counts}
+use Rattle.network.specs.declared.Part.the-variants.{BrFrom, BrTo}
+use Rattle.network.specs.Layout.{wire}
+use Rattle.network.specs.Numbers.{Wired}
 use Rattle.model.specs.Quantities.{addAt, subAt}
 use Rattle.model.specs.Susceptance.{weight, isCell, cellTurn, susceptance, touches, touched, susceptanceCell, susceptanceRow}
 use Rattle.model.specs.Incidence.{endAt, takes, endTurn, walkTurn, cellSum, cellMark, sumTurn, markTurn, markAt, Covers, marked, Stepped, EndStepped, RowBlank, RowAt, RowHeld, cellAt, spanAt}

@@ -9,10 +9,10 @@ use Rattle.float64.specs.Values.{within, rawLimit, sheetLimit}
 use Rattle.sequence.specs.Lists.{made}
 use Rattle.sequence.specs.Answers.{Test, test, firstOf, short, Filled, fills}
 use Rattle.sequence.specs.Sheets.{Triplet, Laid, lays, shortList}
-use Rattle.model.specs.declared.Counts.{Counts}
+use Rattle.network.specs.declared.Counts.{Counts}
 use Rattle.model.specs.declared.RowKind.{RowKind}
-use Rattle.model.specs.Layout.{countsOf}
-use Rattle.model.specs.Numbers.{Network, networkTests, allWithin}
+use Rattle.network.specs.Layout.{countsOf}
+use Rattle.network.specs.Numbers.{Network, networkTests, allWithin}
 use Rattle.model.specs.Quantities.{shedCap, flowOffset, phase, networkAt, fixedAt, generatorCost, evaluate}
 use Rattle.model.specs.Rows.{rowLimits, kindOf}
 use Rattle.model.specs.Susceptance.{susceptanceCoo}

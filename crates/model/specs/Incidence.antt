@@ -11,9 +11,9 @@ use Rattle.float64.specs.Values.{nought}
 use Rattle.sequence.specs.Lists.{each, turns}
 use Rattle.sequence.specs.Links.{Links}
 use Rattle.sequence.specs.Sheets.{Triplet, item, emit}
-use Rattle.model.specs.declared.Counts.{Counts}
-use Rattle.model.specs.declared.Part.the-variants.{BrFrom, BrTo}
-use Rattle.model.specs.Layout.{wire}
+use Rattle.network.specs.declared.Counts.{Counts}
+use Rattle.network.specs.declared.Part.the-variants.{BrFrom, BrTo}
+use Rattle.network.specs.Layout.{wire}
 use Rattle.model.specs.Quantities.{addAt, subAt}
 use Rattle.model.specs.Susceptance.{weight, isCell, cellTurn, susceptance, touches, touched}
 

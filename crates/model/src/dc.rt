@@ -1,12 +1,7 @@
 // model/dc.rs's quantities as public calls. Each tests the whole network, answers 01's number and a
 // count, and fills the front of the sheet that it is lent; a refusal changes no word.
-use crate::Counts;
 use crate::RowKind;
-use crate::check::all_within;
-use crate::check::is_raw;
-use crate::check::network_number_with;
 use crate::cost::generator_cost_at;
-use crate::layout::counts;
 use crate::rows::row_limits;
 use crate::susceptance::put_susceptance;
 use crate::terms::evaluate_at;
@@ -16,6 +11,11 @@ use crate::withdrawal::network_into;
 use crate::withdrawal::phase_into;
 use crate::withdrawal::shed_cap_at;
 use float64::sheet_limit;
+use network::Counts;
+use network::check::all_within;
+use network::check::is_raw;
+use network::check::network_number_with;
+use network::layout::counts;
 use sequence::Answer;
 use sequence::room;
 ghost use mathlib.Core.Path.{_≡_};
@@ -26,8 +26,8 @@ ghost use lib.ListN.{length};
 ghost use Rattle.sequence.specs.Answers.{filled};
 ghost use Rattle.float64.specs.Values.{sheetLimit};
 ghost use Rattle.sequence.specs.Sheets.{laid, laysIf};
-ghost use Rattle.model.specs.Layout.{ReadingsLaid};
-ghost use Rattle.model.specs.Numbers.{lent, allWithin, Wired};
+ghost use Rattle.network.specs.Layout.{ReadingsLaid};
+ghost use Rattle.network.specs.Numbers.{lent, allWithin, Wired};
 ghost use Rattle.model.specs.Susceptance.{susceptanceCoo};
 ghost use Rattle.model.specs.Calls.{shedCapCall, flowOffsetCall, generatorCostCall, evaluateCall, phaseCall, networkCall, fixedCall, rowKindCall, susceptanceCall};
 

@@ -1,10 +1,10 @@
 // The susceptance matrix as triplets, by row, then column.
-use crate::Counts;
-use crate::Field;
-use crate::Part;
-use crate::layout::reading;
-use crate::layout::wide;
-use crate::layout::word;
+use network::Counts;
+use network::Field;
+use network::Part;
+use network::layout::reading;
+use network::layout::wide;
+use network::layout::word;
 use sequence::Item;
 use sequence::fill;
 use sequence::least;
@@ -20,8 +20,8 @@ ghost use Rattle.float64.specs.Values.{nought};
 ghost use Rattle.sequence.specs.Lists.{each};
 ghost use Rattle.sequence.specs.Links.{Links};
 ghost use Rattle.sequence.specs.Sheets.{item, held, Puts, Room};
-ghost use Rattle.model.specs.Layout.{ReadingsLaid};
-ghost use Rattle.model.specs.Numbers.{Wired};
+ghost use Rattle.network.specs.Layout.{ReadingsLaid};
+ghost use Rattle.network.specs.Numbers.{Wired};
 ghost use Rattle.model.specs.Quantities.{addAt, subAt};
 ghost use Rattle.model.specs.Susceptance.{weight, cellTurn, susceptanceRow, susceptanceCoo};
 ghost use Rattle.model.specs.Incidence.{endAt, Chains, takes, cellSum, cellMark, markAt, Covers, marked, RowRoom, Stepped, EndStepped, RowBlank, RowHeld, cellAt, spanAt};

@@ -33,7 +33,7 @@ fn main() {
 fn numbers(wiring: &[u32], readings: &[f64]) {
     let index = &wiring[..0];
     let coefficient = &readings[..0];
-    let number = model::check::network_number(wiring, readings, index, coefficient);
+    let number = network::check::network_number(wiring, readings, index, coefficient);
     io::write_all(STDOUT_FILENO, b"network ");
     io::print_decimal(STDOUT_FILENO, number as u64);
     io::write_all(STDOUT_FILENO, b"\n");

@@ -15,7 +15,7 @@ use Rattle.sequence.proofs.Lists.{and-left, and-right, made-length}
 use Rattle.sequence.proofs.Answers.{no-test, passed, holding, first-stands, first-passes, fills-refused, fills-done}
 use Rattle.sequence.proofs.Sheets.{lays-refused}
 use Rattle.network.specs.Numbers.{Network, networkTests, sizesHold}
-use Rattle.model.specs.Calls.{counted, elementNumber, elementCall, sheetNumber, busCall, rowKind, rowKindNumber, rowKindCall, listNumber}
+use Rattle.model.specs.Calls.{counted, elementTests, elementNumber, elementCall, sheetNumber, busCall, rowKind, rowKindNumber, rowKindCall, listNumber}
 use Rattle.model.specs.Rows.{rowLimits, kindOf}
 
 module _ (N : Network) (sizes values : Bool) where
@@ -55,21 +55,14 @@ module _ (N : Network) (sizes values : Bool) (i count : ℕ) (x : Float) (sheet 
   unfolding elementNumber
   element-refused h = fills-refused (x ∷ []) sheet (network-stands N sizes values _ e h) h
 
-  pub element-out : k ≡ 0 → count ≤ i → filled 5 0 sheet ≡ elementCall N sizes values i count x sheet
+  pub element-stops : k ≡ 0 → {n : ℕ} → n ≡ firstOf (elementTests count i (length sheet)) → (n ≡ 0 → ⊥) → filled n 0 sheet ≡ elementCall N sizes values i count x sheet
   unfolding elementNumber
-  element-out z h =
-      fills-refused (x ∷ []) sheet (network-passes N sizes values _ e z ∙ holding 5 _ _ (le-leb count i h)) (λ q. absurd (omega arith))
+  element-stops z q h = fills-refused (x ∷ []) sheet (network-passes N sizes values _ e z ∙ sym q) h
 
-  pub element-short : k ≡ 0 → i < count → length sheet < 1 → filled 7 0 sheet ≡ elementCall N sizes values i count x sheet
+  pub element-done : k ≡ 0 → {n : ℕ} → n ≡ firstOf (elementTests count i (length sheet)) → n ≡ 0 → 1 ≤ length sheet → {y : Float} → y ≡ x
+      → filled 0 1 (set sheet 0 y) ≡ elementCall N sizes values i count x sheet
   unfolding elementNumber
-  element-short z h l =
-      fills-refused (x ∷ []) sheet (network-passes N sizes values _ e z ∙ passed 5 _ _ (lt-leb count i h) ∙ holding 7 _ [] (lt-ltb (length sheet) 1 l)) (λ q. absurd (omega arith))
-
-  pub element-done : k ≡ 0 → i < count → 1 ≤ length sheet → {y : Float} → y ≡ x → filled 0 1 (set sheet 0 y) ≡ elementCall N sizes values i count x sheet
-  unfolding elementNumber
-  element-done z h l q =
-      rw (q, one-front x sheet l)
-      (fills-done (x ∷ []) sheet (network-passes N sizes values _ e z ∙ passed 5 _ _ (lt-leb count i h) ∙ passed 7 _ [] (le-ltb (length sheet) 1 l) ∙ no-test))
+  element-done z q h l p = rw (p, one-front x sheet l) (fills-done (x ∷ []) sheet (network-passes N sizes values _ e z ∙ sym q ∙ h))
 
 -- a call for a number for every bus
 module _ (N : Network) (f : ℕ → Float) (sheet : List Float) {k : ℕ} (e : k ≡ firstOf (networkTests N true true)) where

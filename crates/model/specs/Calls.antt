@@ -3,7 +3,7 @@ use Prim.Native.Nat.{ℕ}
 use mathlib.Core.Bool.{Bool, true, cond, _&&_}
 use mathlib.Core.List.{List, [], _∷_, _++_}
 use lib.ListN.{length}
-use lib.Dec.{eqb, leb}
+use lib.Dec.{eqb, ltb, leb}
 use lib.Ieee.{Float}
 use Rattle.float64.specs.Values.{within, rawLimit, sheetLimit}
 use Rattle.sequence.specs.Lists.{made}
@@ -21,13 +21,16 @@ use Rattle.model.specs.Susceptance.{susceptanceCoo}
 abbrev pub counted : Network → Counts
 counted N = countsOf (N .wiring)
 
--- a call for one number of an element: index i of `length` of them; a call's own sizes and values hold or not
-unfoldable pub elementNumber : Network → Bool → Bool → ℕ → ℕ → List Float → List Float → ℕ
-elementNumber N sizes values i count result sheet =
-    firstOf (networkTests N sizes values ++ test 5 (leb count i) ∷ test 7 (short result sheet) ∷ [])
+-- an element's index is below its count, and the sheet has room for one number
+abbrev pub elementTests : ℕ → ℕ → ℕ → List Test
+elementTests count i room = test 5 (leb count i) ∷ test 7 (ltb room 1) ∷ []
+
+-- a call for one number of an element: index i of `count` of them; a call's own sizes and values hold or not
+unfoldable pub elementNumber : Network → Bool → Bool → ℕ → ℕ → ℕ → ℕ
+elementNumber N sizes values i count room = firstOf (networkTests N sizes values ++ elementTests count i room)
 
 abbrev pub elementCall : Network → Bool → Bool → ℕ → ℕ → Float → List Float → Filled Float
-elementCall N sizes values i count x sheet = fills (elementNumber N sizes values i count (x ∷ []) sheet) (x ∷ []) sheet
+elementCall N sizes values i count x sheet = fills (elementNumber N sizes values i count (length sheet)) (x ∷ []) sheet
 
 abbrev pub shedCapCall : Network → ℕ → List Float → Filled Float
 shedCapCall N i sheet = elementCall N true true i (counted N .buses) (shedCap (counted N) (N .wiring) (N .readings) i) sheet

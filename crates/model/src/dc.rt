@@ -23,13 +23,28 @@ ghost use lib.ListN.{getD};
 ghost use mathlib.Core.Bool.{_&&_};
 ghost use lib.Dec.{eqb};
 ghost use lib.ListN.{length};
-ghost use Rattle.sequence.specs.Answers.{filled};
+ghost use Prim.Native.Nat.{ℕ, _<_, _≤_};
+ghost use Rattle.sequence.specs.Answers.{firstOf, filled};
 ghost use Rattle.float64.specs.Values.{sheetLimit};
 ghost use Rattle.sequence.specs.Sheets.{laid, laysIf};
 ghost use Rattle.network.specs.Layout.{ReadingsLaid};
 ghost use Rattle.network.specs.Numbers.{lent, allWithin, Wired};
 ghost use Rattle.model.specs.Susceptance.{susceptanceCoo};
-ghost use Rattle.model.specs.Calls.{shedCapCall, flowOffsetCall, generatorCostCall, evaluateCall, phaseCall, networkCall, fixedCall, rowKindCall, susceptanceCall};
+ghost use Rattle.model.specs.Calls.{elementTests, shedCapCall, flowOffsetCall, generatorCostCall, evaluateCall, phaseCall, networkCall, fixedCall, rowKindCall, susceptanceCall};
+
+// Numbers 5 and 7 of a call for one number: index i is below `count`, and the sheet has room for it.
+fn element_number(count: usize, i: usize, room: usize) -> u32
+    ensures { λ k. ⌜ k ≡ firstOf (elementTests count i room) ⌝ }
+    ensures { λ (k : ℕ). ⌜ (k ≡ 0 → (i < count) × (1 ≤ room)) ⌝ }
+{
+    if count <= i {
+        return 5;
+    }
+    if room < 1 {
+        return 7;
+    }
+    0
+}
 
 // The phase-shift withdrawal of every bus.
 pub fn phase_withdrawal(
@@ -131,15 +146,10 @@ pub fn current_flow_offset(
         return Answer { number, count: 0 };
     }
     let c = counts(wiring);
-    if c.branches <= branch {
+    let element = element_number(c.branches, branch, out.len());
+    if element != 0 {
         return Answer {
-            number: 5,
-            count: 0,
-        };
-    }
-    if out.len() < 1 {
-        return Answer {
-            number: 7,
+            number: element,
             count: 0,
         };
     }
@@ -166,15 +176,10 @@ pub fn shed_cap(
         return Answer { number, count: 0 };
     }
     let c = counts(wiring);
-    if c.buses <= bus {
+    let element = element_number(c.buses, bus, out.len());
+    if element != 0 {
         return Answer {
-            number: 5,
-            count: 0,
-        };
-    }
-    if out.len() < 1 {
-        return Answer {
-            number: 7,
+            number: element,
             count: 0,
         };
     }
@@ -203,15 +208,10 @@ pub fn generator_cost(
         return Answer { number, count: 0 };
     }
     let c = counts(wiring);
-    if c.generators <= generator {
+    let element = element_number(c.generators, generator, out.len());
+    if element != 0 {
         return Answer {
-            number: 5,
-            count: 0,
-        };
-    }
-    if out.len() < 1 {
-        return Answer {
-            number: 7,
+            number: element,
             count: 0,
         };
     }
@@ -280,15 +280,10 @@ pub fn evaluate(
         return Answer { number, count: 0 };
     }
     let c = counts(wiring);
-    if c.rows <= row {
+    let element = element_number(c.rows, row, out.len());
+    if element != 0 {
         return Answer {
-            number: 5,
-            count: 0,
-        };
-    }
-    if out.len() < 1 {
-        return Answer {
-            number: 7,
+            number: element,
             count: 0,
         };
     }

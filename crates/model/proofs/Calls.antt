@@ -7,14 +7,16 @@ use native.Mathlib.Omega.{arith}
 use lib.ListN.{length, set, drop}
 use lib.Dec.{T, eqb}
 use lib.Ieee.{Float}
-use borrow.Author.Tests.{le-leb, lt-leb, lt-ltb, le-ltb, eqb-true}
+use borrow.Author.Tests.{le-leb, lt-leb, lt-ltb, le-ltb, eqb-true, ne-eqb}
 use Rattle.sequence.specs.Lists.{front, made}
 use Rattle.sequence.specs.Answers.{Test, test, firstOf, marked, filled, fills, short}
-use Rattle.sequence.specs.Sheets.{Triplet, Laid, laid, lays, shortList, room}
+use Rattle.sequence.specs.Sheets.{Triplet, laid, lays, laysIf, shortList}
 use Rattle.sequence.proofs.Lists.{and-left, and-right, made-length}
 use Rattle.sequence.proofs.Answers.{no-test, passed, holding, first-stands, first-passes, fills-refused, fills-done}
-use Rattle.model.specs.Numbers.{Network, networkTests, sizesHold}
-use Rattle.model.specs.Calls.{counted, elementNumber, elementCall, sheetNumber, busCall, listNumber}
+use Rattle.sequence.proofs.Sheets.{lays-refused}
+use Rattle.network.specs.Numbers.{Network, networkTests, sizesHold}
+use Rattle.model.specs.Calls.{counted, elementTests, elementNumber, elementCall, sheetNumber, busCall, rowKind, rowKindNumber, rowKindCall, listNumber}
+use Rattle.model.specs.Rows.{rowLimits, kindOf}
 
 module _ (N : Network) (sizes values : Bool) where
   network-marked : T (marked (networkTests N sizes values))
@@ -53,21 +55,14 @@ module _ (N : Network) (sizes values : Bool) (i count : ℕ) (x : Float) (sheet 
   unfolding elementNumber
   element-refused h = fills-refused (x ∷ []) sheet (network-stands N sizes values _ e h) h
 
-  pub element-out : k ≡ 0 → count ≤ i → filled 5 0 sheet ≡ elementCall N sizes values i count x sheet
+  pub element-stops : k ≡ 0 → {n : ℕ} → n ≡ firstOf (elementTests count i (length sheet)) → (n ≡ 0 → ⊥) → filled n 0 sheet ≡ elementCall N sizes values i count x sheet
   unfolding elementNumber
-  element-out z h =
-      fills-refused (x ∷ []) sheet (network-passes N sizes values _ e z ∙ holding 5 _ _ (le-leb count i h)) (λ q. absurd (omega arith))
+  element-stops z q h = fills-refused (x ∷ []) sheet (network-passes N sizes values _ e z ∙ sym q) h
 
-  pub element-short : k ≡ 0 → i < count → length sheet < 1 → filled 7 0 sheet ≡ elementCall N sizes values i count x sheet
+  pub element-done : k ≡ 0 → {n : ℕ} → n ≡ firstOf (elementTests count i (length sheet)) → n ≡ 0 → 1 ≤ length sheet → {y : Float} → y ≡ x
+      → filled 0 1 (set sheet 0 y) ≡ elementCall N sizes values i count x sheet
   unfolding elementNumber
-  element-short z h l =
-      fills-refused (x ∷ []) sheet (network-passes N sizes values _ e z ∙ passed 5 _ _ (lt-leb count i h) ∙ holding 7 _ [] (lt-ltb (length sheet) 1 l)) (λ q. absurd (omega arith))
-
-  pub element-done : k ≡ 0 → i < count → 1 ≤ length sheet → {y : Float} → y ≡ x → filled 0 1 (set sheet 0 y) ≡ elementCall N sizes values i count x sheet
-  unfolding elementNumber
-  element-done z h l q =
-      rw (q, one-front x sheet l)
-      (fills-done (x ∷ []) sheet (network-passes N sizes values _ e z ∙ passed 5 _ _ (lt-leb count i h) ∙ passed 7 _ [] (le-ltb (length sheet) 1 l) ∙ no-test))
+  element-done z q h l p = rw (p, one-front x sheet l) (fills-done (x ∷ []) sheet (network-passes N sizes values _ e z ∙ sym q ∙ h))
 
 -- a call for a number for every bus
 module _ (N : Network) (f : ℕ → Float) (sheet : List Float) {k : ℕ} (e : k ≡ firstOf (networkTests N true true)) where
@@ -89,3 +84,35 @@ module _ (N : Network) (f : ℕ → Float) (sheet : List Float) {k : ℕ} (e : k
       ap (λ (y : List Float). filled 0 n y) h
       ∙ ap (λ (y : ℕ). filled 0 y (front result sheet)) (q ∙ sym (made-length f (counted N .buses)))
       ∙ fills-done result sheet (network-passes N true true _ e z ∙ passed 7 _ [] (le-ltb (length sheet) (length result) (rw made-length l)) ∙ no-test)
+
+-- a call for a row's kind
+module _ (N : Network) (q : ℕ) {k : ℕ} (e : k ≡ firstOf (networkTests N true true)) where
+  kind-refused' : {n : ℕ} → rowKindNumber N q ≡ n → (n ≡ 0 → ⊥) → rowKind n 0 ≡ rowKindCall N q
+  unfolding rowKindCall
+  kind-refused' {n} z h = rw (z, ne-eqb n 0 h)
+
+  pub kind-refused : (k ≡ 0 → ⊥) → rowKind k 0 ≡ rowKindCall N q
+  unfolding rowKindNumber
+  kind-refused h = kind-refused' (network-stands N true true _ e h) h
+
+  pub kind-out : k ≡ 0 → counted N .rows ≤ q → rowKind 5 0 ≡ rowKindCall N q
+  unfolding rowKindNumber
+  kind-out z h = kind-refused' (network-passes N true true _ e z ∙ holding 5 _ [] (le-leb (counted N .rows) q h)) (λ y. absurd (omega arith))
+
+  kind-number : k ≡ 0 → q < counted N .rows → rowKindNumber N q ≡ 0
+  unfolding rowKindNumber
+  kind-number z h = network-passes N true true _ e z ∙ passed 5 _ [] (lt-leb (counted N .rows) q h) ∙ no-test
+
+  pub kind-done : k ≡ 0 → q < counted N .rows → {n : ℕ} → n ≡ kindOf (rowLimits (counted N) (N .wiring) (N .readings) q) → rowKind 0 n ≡ rowKindCall N q
+  unfolding rowKindCall
+  kind-done z h y = rw (kind-number z h, y)
+
+-- a call for a list
+module _ (N : Network) (ts : List Triplet) (R C : List ℕ) (X : List Float) {k : ℕ} (e : k ≡ firstOf (networkTests N true true)) where
+  pub list-refused : (k ≡ 0 → ⊥) → laid k 0 R C X ≡ lays (listNumber N ts R C X) ts R C X
+  unfolding listNumber
+  list-refused h = lays-refused ts R C X (network-stands N true true _ e h) h
+
+  pub list-laid : k ≡ 0 → laysIf ts R C X ≡ lays (listNumber N ts R C X) ts R C X
+  unfolding listNumber firstOf
+  list-laid z = ap (λ (n : ℕ). lays n ts R C X) (sym (network-passes N true true (test 7 (shortList ts R C X) ∷ []) e z))

@@ -1,6 +1,5 @@
 -- The laws that proofs cite, here and in the crates above. Assumes nothing.
-pub mod Places
-pub mod Tests
 pub mod Calls
 pub mod Runs
 pub mod Withdrawals
+pub mod Incidence

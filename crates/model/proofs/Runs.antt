@@ -8,10 +8,10 @@ use lib.ListN.{length, getD}
 use lib.Ieee.{Float}
 use Rattle.sequence.specs.Lists.{before}
 use Rattle.sequence.proofs.Lists.{before-more, before-le, before-within}
-use Rattle.model.specs.declared.Counts.{Counts}
-use Rattle.model.specs.declared.Part.the-variants.{FlowTerms, GenerationTerms}
-use Rattle.model.specs.Layout.{wire, segmentsAt, segmentStart, rowTerms, termStart}
-use Rattle.model.specs.Numbers.{Wired, Termed}
+use Rattle.network.specs.declared.Counts.{Counts}
+use Rattle.network.specs.declared.Part.the-variants.{FlowTerms, GenerationTerms}
+use Rattle.network.specs.Layout.{wire, segmentsAt, segmentStart, rowTerms, termStart}
+use Rattle.network.specs.Numbers.{Wired, Termed}
 
 pub segments-none : (c : Counts) (w : List ℕ) → 0 ≡ segmentStart c w 0
 unfolding segmentStart before

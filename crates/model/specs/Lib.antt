@@ -1,7 +1,6 @@
 -- The definitions that the contracts cite, from document 01. Assumes nothing.
-pub mod Layout
-pub mod Numbers
 pub mod Rows
 pub mod Quantities
 pub mod Susceptance
+pub mod Incidence
 pub mod Calls

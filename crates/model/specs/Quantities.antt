@@ -8,10 +8,10 @@ use lib.Dec.{eqb}
 use lib.Ieee.{Float, nan, inf, binary64, add, sub, mul, lt}
 use Rattle.float64.specs.Values.{nought, maxZero}
 use Rattle.sequence.specs.Lists.{turns}
-use Rattle.model.specs.declared.Counts.{Counts}
-use Rattle.model.specs.declared.Part.the-variants.{BrFrom, BrTo, FlowTerms, GenerationTerms}
-use Rattle.model.specs.declared.Field.the-variants.{Sw, FlowOffset, Cq, Cl, Cc, Demand, ShuntConductance, HvdcInjection, Slopes, Intercepts}
-use Rattle.model.specs.Layout.{allowShed, wire, reading, segmentsAt, segmentStart, termStart}
+use Rattle.network.specs.declared.Counts.{Counts}
+use Rattle.network.specs.declared.Part.the-variants.{BrFrom, BrTo, FlowTerms, GenerationTerms}
+use Rattle.network.specs.declared.Field.the-variants.{Sw, FlowOffset, Cq, Cl, Cc, Demand, ShuntConductance, HvdcInjection, Slopes, Intercepts}
+use Rattle.network.specs.Layout.{allowShed, wire, reading, segmentsAt, segmentStart, termStart}
 
 -- "the larger of demand and 0 if allow_shed, else 0"
 unfoldable pub shedCap : Counts → List ℕ → List Float → ℕ → Float

@@ -4,12 +4,12 @@ use mathlib.Core.Bool.{Bool, true, false, cond}
 use mathlib.Core.List.{List}
 use lib.Dec.{eqb}
 use lib.Ieee.{Float, eq}
-use Rattle.model.specs.declared.Counts.{Counts}
-use Rattle.model.specs.declared.Part.the-variants.{Masks}
-use Rattle.model.specs.declared.Field.the-variants.{UpperMw, LowerMw}
+use Rattle.network.specs.declared.Counts.{Counts}
+use Rattle.network.specs.declared.Part.the-variants.{Masks}
+use Rattle.network.specs.declared.Field.the-variants.{UpperMw, LowerMw}
 use Rattle.model.specs.declared.RowLimits.{RowLimits}
 use Rattle.model.specs.declared.RowLimits.the-variants.{None, Upper, Lower, Both, Equal}
-use Rattle.model.specs.Layout.{wire, reading}
+use Rattle.network.specs.Layout.{wire, reading}
 
 -- "`is_equality`: both limits, equal as numbers", so -0 and +0 are; the Rust then reads the lower limit
 abbrev pub bothOf : Bool → Float → Float → RowLimits

@@ -8,10 +8,10 @@ use lib.Ieee.{Float, binary64, add, sub, mul, neg, eq}
 use Rattle.float64.specs.Values.{nought}
 use Rattle.sequence.specs.Lists.{each, when, turns, some}
 use Rattle.sequence.specs.Sheets.{Triplet, triplet}
-use Rattle.model.specs.declared.Counts.{Counts}
-use Rattle.model.specs.declared.Part.the-variants.{BrFrom, BrTo}
-use Rattle.model.specs.declared.Field.the-variants.{Susceptance, Sw}
-use Rattle.model.specs.Layout.{wire, reading}
+use Rattle.network.specs.declared.Counts.{Counts}
+use Rattle.network.specs.declared.Part.the-variants.{BrFrom, BrTo}
+use Rattle.network.specs.declared.Field.the-variants.{Susceptance, Sw}
+use Rattle.network.specs.Layout.{wire, reading}
 use Rattle.model.specs.Quantities.{addAt, subAt}
 
 -- -b[e] * sw[e]

@@ -1,13 +1,13 @@
 // A generator's cost: the quadratic of its three readings, or the greatest of its segments.
-use crate::Counts;
-use crate::Field;
-use crate::Part;
-use crate::layout::reading;
-use crate::layout::word;
+use network::Counts;
+use network::Field;
+use network::Part;
+use network::layout::reading;
+use network::layout::word;
 ghost use mathlib.Core.Path.{_≡_};
 ghost use Prim.Native.Nat.{_<_, _≤_};
-ghost use Rattle.model.specs.Layout.{ReadingsLaid, segmentStart};
-ghost use Rattle.model.specs.Numbers.{Wired};
+ghost use Rattle.network.specs.Layout.{ReadingsLaid, segmentStart};
+ghost use Rattle.network.specs.Numbers.{Wired};
 ghost use Rattle.model.specs.Quantities.{quadratic, segmentValue, larger, piecewise, generatorCost};
 
 // Where generator j's segments begin.

@@ -1,10 +1,9 @@
 // model/dc.rs's quantities as public calls. Each tests the whole network, answers 01's number and a
 // count, and fills the front of the sheet that it is lent; a refusal changes no word.
-use crate::check::all_within;
-use crate::check::is_raw;
-use crate::check::network_number_with;
+use crate::RowKind;
 use crate::cost::generator_cost_at;
-use crate::layout::counts;
+use crate::rows::row_limits;
+use crate::susceptance::put_susceptance;
 use crate::terms::evaluate_at;
 use crate::withdrawal::fixed_into;
 use crate::withdrawal::flow_offset_at;
@@ -12,16 +11,40 @@ use crate::withdrawal::network_into;
 use crate::withdrawal::phase_into;
 use crate::withdrawal::shed_cap_at;
 use float64::sheet_limit;
+use network::Counts;
+use network::check::all_within;
+use network::check::is_raw;
+use network::check::network_number_with;
+use network::layout::counts;
 use sequence::Answer;
+use sequence::room;
 ghost use mathlib.Core.Path.{_≡_};
 ghost use lib.ListN.{getD};
 ghost use mathlib.Core.Bool.{_&&_};
 ghost use lib.Dec.{eqb};
 ghost use lib.ListN.{length};
-ghost use Rattle.sequence.specs.Answers.{filled};
+ghost use Prim.Native.Nat.{ℕ, _<_, _≤_};
+ghost use Rattle.sequence.specs.Answers.{firstOf, filled};
 ghost use Rattle.float64.specs.Values.{sheetLimit};
-ghost use Rattle.model.specs.Numbers.{lent, allWithin};
-ghost use Rattle.model.specs.Calls.{shedCapCall, flowOffsetCall, generatorCostCall, evaluateCall, phaseCall, networkCall, fixedCall};
+ghost use Rattle.sequence.specs.Sheets.{laid, laysIf};
+ghost use Rattle.network.specs.Layout.{ReadingsLaid};
+ghost use Rattle.network.specs.Numbers.{lent, allWithin, Wired};
+ghost use Rattle.model.specs.Susceptance.{susceptanceCoo};
+ghost use Rattle.model.specs.Calls.{elementTests, shedCapCall, flowOffsetCall, generatorCostCall, evaluateCall, phaseCall, networkCall, fixedCall, rowKindCall, susceptanceCall};
+
+// Numbers 5 and 7 of a call for one number: index i is below `count`, and the sheet has room for it.
+fn element_number(count: usize, i: usize, room: usize) -> u32
+    ensures { λ k. ⌜ k ≡ firstOf (elementTests count i room) ⌝ }
+    ensures { λ (k : ℕ). ⌜ (k ≡ 0 → (i < count) × (1 ≤ room)) ⌝ }
+{
+    if count <= i {
+        return 5;
+    }
+    if room < 1 {
+        return 7;
+    }
+    0
+}
 
 // The phase-shift withdrawal of every bus.
 pub fn phase_withdrawal(
@@ -123,15 +146,10 @@ pub fn current_flow_offset(
         return Answer { number, count: 0 };
     }
     let c = counts(wiring);
-    if c.branches <= branch {
+    let element = element_number(c.branches, branch, out.len());
+    if element != 0 {
         return Answer {
-            number: 5,
-            count: 0,
-        };
-    }
-    if out.len() < 1 {
-        return Answer {
-            number: 7,
+            number: element,
             count: 0,
         };
     }
@@ -158,15 +176,10 @@ pub fn shed_cap(
         return Answer { number, count: 0 };
     }
     let c = counts(wiring);
-    if c.buses <= bus {
+    let element = element_number(c.buses, bus, out.len());
+    if element != 0 {
         return Answer {
-            number: 5,
-            count: 0,
-        };
-    }
-    if out.len() < 1 {
-        return Answer {
-            number: 7,
+            number: element,
             count: 0,
         };
     }
@@ -195,15 +208,10 @@ pub fn generator_cost(
         return Answer { number, count: 0 };
     }
     let c = counts(wiring);
-    if c.generators <= generator {
+    let element = element_number(c.generators, generator, out.len());
+    if element != 0 {
         return Answer {
-            number: 5,
-            count: 0,
-        };
-    }
-    if out.len() < 1 {
-        return Answer {
-            number: 7,
+            number: element,
             count: 0,
         };
     }
@@ -272,15 +280,10 @@ pub fn evaluate(
         return Answer { number, count: 0 };
     }
     let c = counts(wiring);
-    if c.rows <= row {
+    let element = element_number(c.rows, row, out.len());
+    if element != 0 {
         return Answer {
-            number: 5,
-            count: 0,
-        };
-    }
-    if out.len() < 1 {
-        return Answer {
-            number: 7,
+            number: element,
             count: 0,
         };
     }
@@ -289,4 +292,75 @@ pub fn evaluate(
         number: 0,
         count: 1,
     }
+}
+
+// Which limits a linear row has: 0 none, 1 an upper, 2 a lower, 3 both, 4 an equality.
+pub fn row_kind(
+    wiring: &[u32],
+    readings: &[f64],
+    term_index: &[u32],
+    term_coefficient: &[f64],
+    row: usize,
+) -> RowKind
+    ensures { λ a. ⌜ a ≡ rowKindCall (lent (wiring .entry) (readings .entry) («term_index» .entry) («term_coefficient» .entry)) row ⌝ }
+{
+    let number = network_number_with(wiring, readings, term_index, term_coefficient, true, true);
+    if number != 0 {
+        return RowKind { number, kind: 0 };
+    }
+    let c = counts(wiring);
+    if c.rows <= row {
+        return RowKind { number: 5, kind: 0 };
+    }
+    RowKind {
+        number: 0,
+        kind: row_limits(wiring, readings, c, row).kind(),
+    }
+}
+
+// The susceptance list where the sheets hold it: counted first, then written.
+fn lay_susceptance(
+    wiring: &[u32],
+    readings: &[f64],
+    c: Counts,
+    rows: &mut [u32],
+    cols: &mut [u32],
+    values: &mut [f64],
+) -> Answer
+    requires { ⌜ Wired c (now wiring) ⌝ }
+    requires { ⌜ ReadingsLaid c (now readings) ⌝ }
+    ensures { λ a. ⌜ laid (a .number) (a .count) (now (rows .exit)) (now (cols .exit)) (now (values .exit)) ≡ laysIf (susceptanceCoo c (now (wiring .entry)) (now (readings .entry))) (now (rows .entry)) (now (cols .entry)) (now (values .entry)) ⌝ }
+{
+    let cap = room(rows, cols, values);
+    let count = put_susceptance(wiring, readings, c, rows, cols, values, 0);
+    if cap < count {
+        return Answer {
+            number: 7,
+            count: 0,
+        };
+    }
+    let done = put_susceptance(wiring, readings, c, rows, cols, values, count);
+    Answer {
+        number: 0,
+        count: done,
+    }
+}
+
+// The susceptance matrix as triplets, by row, then column.
+pub fn susceptance_coo(
+    wiring: &[u32],
+    readings: &[f64],
+    term_index: &[u32],
+    term_coefficient: &[f64],
+    rows: &mut [u32],
+    cols: &mut [u32],
+    values: &mut [f64],
+) -> Answer
+    ensures { λ a. ⌜ laid (a .number) (a .count) (now (rows .exit)) (now (cols .exit)) (now (values .exit)) ≡ susceptanceCall (lent (wiring .entry) (readings .entry) («term_index» .entry) («term_coefficient» .entry)) (now (rows .entry)) (now (cols .entry)) (now (values .entry)) ⌝ }
+{
+    let number = network_number_with(wiring, readings, term_index, term_coefficient, true, true);
+    if number != 0 {
+        return Answer { number, count: 0 };
+    }
+    lay_susceptance(wiring, readings, counts(wiring), rows, cols, values)
 }

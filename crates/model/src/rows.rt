@@ -1,13 +1,13 @@
 // A linear row's limits, read from its mask and its two slots.
-use crate::Counts;
-use crate::Field;
-use crate::Part;
 use crate::RowLimits;
-use crate::layout::reading;
-use crate::layout::word;
+use network::Counts;
+use network::Field;
+use network::Part;
+use network::layout::reading;
+use network::layout::word;
 ghost use mathlib.Core.Path.{_≡_};
 ghost use Prim.Native.Nat.{_<_};
-ghost use Rattle.model.specs.Layout.{WiringLaid, ReadingsLaid};
+ghost use Rattle.network.specs.Layout.{WiringLaid, ReadingsLaid};
 ghost use Rattle.model.specs.Rows.{limitsOf, rowLimits, isEquality, kindOf};
 
 // The limits that a mask names: 1 the upper, 2 the lower, 3 both.

@@ -1,12 +1,12 @@
 // A linear row's value: its flow terms' sum plus its generation terms' sum.
-use crate::Counts;
-use crate::Part;
-use crate::layout::word;
+use network::Counts;
+use network::Part;
+use network::layout::word;
 ghost use mathlib.Core.Path.{_≡_};
 ghost use Prim.Native.Nat.{ℕ, _+_, _<_, _≤_};
 ghost use lib.ListN.{length, getD};
-ghost use Rattle.model.specs.Layout.{termStart};
-ghost use Rattle.model.specs.Numbers.{Wired, Termed};
+ghost use Rattle.network.specs.Layout.{termStart};
+ghost use Rattle.network.specs.Numbers.{Wired, Termed};
 ghost use Rattle.model.specs.Quantities.{termSum, evaluate};
 
 // Where row q's terms begin.

@@ -1,9 +1,9 @@
 // What buses withdraw besides their injections, in the order of the sums of model/dc.rs.
-use crate::Counts;
-use crate::Field;
-use crate::Part;
-use crate::layout::reading;
-use crate::layout::word;
+use network::Counts;
+use network::Field;
+use network::Part;
+use network::layout::reading;
+use network::layout::word;
 ghost use mathlib.Core.Path.{_≡_};
 ghost use Prim.Native.Nat.{ℕ, _<_, _≤_};
 ghost use lib.ListN.{length, getD};
@@ -11,8 +11,8 @@ ghost use lib.Dec.{eqb};
 ghost use lib.Ieee.{nan};
 ghost use Rattle.float64.specs.Values.{nought};
 ghost use Rattle.sequence.specs.Lists.{made, front};
-ghost use Rattle.model.specs.Layout.{WiringLaid, ReadingsLaid};
-ghost use Rattle.model.specs.Numbers.{Wired};
+ghost use Rattle.network.specs.Layout.{WiringLaid, ReadingsLaid};
+ghost use Rattle.network.specs.Numbers.{Wired};
 ghost use Rattle.model.specs.Quantities.{shedCap, flowOffset, addAt, subAt, phase, networkAt, fixedAt};
 
 // The most that bus i can shed: the larger of its demand and 0, and 0 where none may be shed.

@@ -1,5 +1,5 @@
 -- The laws of `Puts`, which every loop that puts triplets cites, and what a counting and a writing pass leave.
--- Main results: `then`, `more`, `once`, `twice`, `short-of`. Assumes nothing.
+-- Main results: `then`, `more`, `once`, `lays-short`, `lays-twice`. Assumes nothing.
 use mathlib.Core.Path.{_≡_, refl, sym, ap, _∙_}
 use Prim.Native.Nat.{ℕ, zero, suc, _+_, _≤_, _<_, zero-le, min}
 use native.Mathlib.Numerals.{add-one}
@@ -14,7 +14,7 @@ use lib.Seq.{sets, sets-eq}
 use borrow.Author.Tests.{lt-ltb, le-ltb, ne-eqb}
 use Rattle.sequence.specs.declared.Item.{Item}
 use Rattle.sequence.specs.Lists.{each, when, front}
-use Rattle.sequence.specs.Sheets.{Triplet, emit, rowsOf, colsOf, valuesOf, Sheets, sheets, put1, puts, Puts, Laid, laid, lays, room}
+use Rattle.sequence.specs.Sheets.{Triplet, emit, rowsOf, colsOf, valuesOf, Sheets, sheets, put1, puts, Puts, Room, Laid, laid, lays, laysIf, room}
 use Rattle.sequence.proofs.Lists.{each-more}
 
 puts-append : (l : ℕ) (S : Sheets) (a b : List Triplet) → puts l S (a ++ b) ≡ puts l (puts l S a) b
@@ -113,3 +113,27 @@ pub twice : {number : ℕ} {ts : List Triplet} {R C R′ C′ R″ C″ : List �
     → number ≡ 0 → Puts 0 ts (sheets R C X 0) (sheets R′ C′ X′ k) → Puts k ts (sheets R′ C′ X′ 0) (sheets R″ C″ X″ d)
     → k ≤ room R C X → laid 0 d R″ C″ X″ ≡ lays number ts R C X
 twice e p q h = once e (rw (counted p .1) at q) (le-of-eq (sym (counted p .0))) h
+
+-- ---- a counting pass, then a writing pass where the sheets hold what was counted
+
+pub lays-short : {ts : List Triplet} {R C R′ C′ : List ℕ} {X X′ : List Float} {k l : ℕ}
+    → Puts 0 ts (sheets R C X 0) (sheets R′ C′ X′ k) → l ≡ room R C X → l < k → laid 7 0 R′ C′ X′ ≡ laysIf ts R C X
+lays-short {ts} {R} {C} {X = X} p e h =
+    let s : room R C X < length ts = rw (e, counted p .0) at h in
+    counted-refused (rw (lt-ltb (room R C X) (length ts) s)) (λ z. absurd (omega arith)) p
+
+pub lays-twice : {ts : List Triplet} {R C R′ C′ R″ C″ : List ℕ} {X X′ X″ : List Float} {k l d : ℕ}
+    → Puts 0 ts (sheets R C X 0) (sheets R′ C′ X′ k) → Puts k ts (sheets R′ C′ X′ 0) (sheets R″ C″ X″ d)
+    → l ≡ room R C X → k ≤ l → laid 0 d R″ C″ X″ ≡ laysIf ts R C X
+lays-twice {ts} {R} {C} {X = X} p q e h =
+    let s : length ts ≤ room R C X = rw (e, counted p .0) at h in
+    twice (rw (le-ltb (room R C X) (length ts) s)) p q (rw e at h)
+
+-- what was counted fits the sheets, as the counting pass left them
+pub room-after : {ts : List Triplet} {R C R′ C′ : List ℕ} {X X′ : List Float} {k l : ℕ} → Puts 0 ts (sheets R C X 0) (sheets R′ C′ X′ k) → l ≡ room R C X → k ≤ l → Room k (sheets R′ C′ X′ 0)
+room-after p e h = record {
+  in-rows = omega (arith, p .rows-kept);
+  in-cols = omega (arith, p .cols-kept);
+  in-values = omega (arith, p .values-kept);
+  far = omega arith;
+}

@@ -101,3 +101,7 @@ lays number ts r c v =
     cond (eqb number 0)
     (laid 0 (length ts) (front (rowsOf ts) r) (front (colsOf ts) c) (front (valuesOf ts) v))
     (laid number 0 r c v)
+
+-- the list where the sheets hold it, and number 7 where they are short
+abbrev pub laysIf : List Triplet → List ℕ → List ℕ → List Float → Laid
+laysIf ts r c v = lays (cond (shortList ts r c v) 7 0) ts r c v

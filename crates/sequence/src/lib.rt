@@ -69,3 +69,24 @@ pub fn room(rows: &[u32], cols: &[u32], values: &[f64]) -> usize
 {
     least(rows.len(), least(cols.len(), values.len()))
 }
+
+// Each of the first b words is v.
+pub fn fill(head: &mut [u32], b: usize, v: u32)
+    requires { ⌜ b ≤ length (now head) ⌝ }
+    ensures { λ _. ⌜ length (now (head .exit)) ≡ length (now (head .entry)) ⌝ }
+    ensures { λ _. ⌜ ((j : ℕ) → j < b → getD (now (head .exit)) j 0 ≡ v) ⌝ }
+{
+    for j in 0..b {
+        head[j] = v;
+    }
+}
+
+// Index i goes before the chain of its key.
+pub fn push(head: &mut [u32], next: &mut [u32], key: usize, i: usize)
+    requires { ⌜ (key < length (now head)) × (i < length (now next)) × (i < 0x1_0000) ⌝ }
+    ensures { λ _. ⌜ now (head .exit) ≡ set (now (head .entry)) key i ⌝ }
+    ensures { λ _. ⌜ now (next .exit) ≡ set (now (next .entry)) i (getD (now (head .entry)) key 0) ⌝ }
+{
+    next[i] = head[key];
+    head[key] = i as u32;
+}

@@ -2,7 +2,7 @@
 use mathlib.Core.Path.{_≡_}
 use Prim.Native.Nat.{_-_, _≤_}
 use native.Mathlib.Omega.{arith}
-use Rattle.model.specs.Layout.{segmentStart}
+use Rattle.network.specs.Layout.{segmentStart}
 use Rattle.model.proofs.Runs.{segments-none, segments-more, segments-within, segments-inside}
 use Rattle.model.proofs.cost.segment_start.Statement.{statement}
 use Rattle.model.proofs.cost.segment_start.Tie as tie

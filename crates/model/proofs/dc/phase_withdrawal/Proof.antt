@@ -2,7 +2,7 @@
 use native.Mathlib.Omega.{arith}
 use mathlib.Core.Path.{ap}
 use borrow.Author.Needs.{needs}
-use Rattle.model.specs.declared.Counts.{Counts}
+use Rattle.network.specs.declared.Counts.{Counts}
 use Rattle.model.proofs.Calls.{bus-refused, bus-short, bus-done}
 use Rattle.model.proofs.dc.phase_withdrawal.Statement.{statement}
 use Rattle.model.proofs.dc.phase_withdrawal.Tie as tie

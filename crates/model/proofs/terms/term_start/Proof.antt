@@ -2,7 +2,7 @@
 use mathlib.Core.Path.{_≡_}
 use Prim.Native.Nat.{_-_, _≤_}
 use native.Mathlib.Omega.{arith}
-use Rattle.model.specs.Layout.{termStart}
+use Rattle.network.specs.Layout.{termStart}
 use Rattle.model.proofs.Runs.{terms-none, terms-more, terms-within, terms-inside}
 use Rattle.model.proofs.terms.term_start.Statement.{statement}
 use Rattle.model.proofs.terms.term_start.Tie as tie

@@ -1,0 +1,12 @@
+-- `model::susceptance::weight` meets its contract: its two readings. Assumes nothing.
+use borrow.Author.Needs.{needs}
+use Rattle.model.specs.Susceptance.{weight}
+use Rattle.model.proofs.susceptance.weight.Statement.{statement}
+use Rattle.model.proofs.susceptance.weight.Tie as tie
+
+returns : tie.Need-returns
+unfolding weight
+returns c = rw (c .before .reading .ensures, c .reading2 .ensures)
+
+pub weight-spec : {M : Type 1} → statement M
+weight-spec = tie.close (tie.spec (λ c κs. search needs) (λ c κs. search needs) returns)

@@ -16,9 +16,9 @@ use Rattle.sequence.proofs.Lists.{and-left, and-right, failed, held as kept, ma
 use Rattle.sequence.proofs.Answers.{holding, first-stands, first-passes}
 use Rattle.words.specs.Words.{doubleAt, doublesOf, doubleBytes, joined}
 use Rattle.words.proofs.Laws.{take-front}
-use Rattle.model.specs.Numbers.{Network, networkTests, networkNumber, sizesHold}
+use Rattle.network.specs.Numbers.{Network, networkTests, networkNumber, sizesHold}
 use Rattle.model.specs.Calls.{counted, elementNumber, elementCall, sheetNumber, busCall}
-use Rattle.model.proofs.Tests.{number-size, sized-few}
+use Rattle.network.proofs.Tests.{number-size, sized-few}
 use Rattle.capi.specs.declared.Lengths.{Lengths}
 use Rattle.capi.specs.Exports.{Out, out, whole, filledOut}
 use Rattle.capi.specs.Decoding.{fits, Arrays, Read, Cells}

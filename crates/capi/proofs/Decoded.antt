@@ -12,9 +12,9 @@ use Rattle.sequence.specs.Lists.{front, made}
 use Rattle.sequence.proofs.Lists.{and-left, and-right, made-length}
 use Rattle.words.specs.Words.{wordAt, doubleAt, wordsOf, doublesOf}
 use Rattle.words.proofs.Laws.{take-made}
-use Rattle.model.specs.Layout.{countsOf}
-use Rattle.model.specs.Numbers.{Network, sizesHold}
-use Rattle.model.proofs.Tests.{sized-few, sized-wiring, sized-readings, sized-indexes, sized-coefficients}
+use Rattle.network.specs.Layout.{countsOf}
+use Rattle.network.specs.Numbers.{Network, sizesHold}
+use Rattle.network.proofs.Tests.{sized-few, sized-wiring, sized-readings, sized-indexes, sized-coefficients}
 use Rattle.capi.specs.declared.Lengths.{Lengths}
 use Rattle.capi.specs.Exports.{whole}
 use Rattle.capi.specs.Decoding.{fits, Held, Arrays, arrays, cut, Holds, Read, Greatest}

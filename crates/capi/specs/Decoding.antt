@@ -7,7 +7,7 @@ use lib.ListN.{length, take}
 use lib.Dec.{leb}
 use lib.Ieee.{Float}
 use Rattle.words.specs.Words.{wordsOf, doublesOf}
-use Rattle.model.specs.Numbers.{Network, sizesHold}
+use Rattle.network.specs.Numbers.{Network, sizesHold}
 use Rattle.capi.specs.declared.Lengths.{Lengths}
 use Rattle.capi.specs.Exports.{whole}
 

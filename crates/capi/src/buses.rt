@@ -9,7 +9,7 @@ ghost use mathlib.Core.Path.{_≡_};
 ghost use mathlib.Core.Bool.{true};
 ghost use lib.ListN.{length};
 ghost use Rattle.words.specs.Words.{doublesOf};
-ghost use Rattle.model.specs.Numbers.{lent};
+ghost use Rattle.network.specs.Numbers.{lent};
 ghost use Rattle.model.specs.Calls.{phaseCall, networkCall, fixedCall};
 ghost use Rattle.capi.specs.Exports.{out, allWhole, decoded, filledOut};
 ghost use Rattle.capi.specs.Decoding.{Cells};

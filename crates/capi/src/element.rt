@@ -13,7 +13,7 @@ ghost use mathlib.Core.Bool.{true, _&&_};
 ghost use lib.Ieee.{binary64, ofBits};
 ghost use lib.ListN.{length};
 ghost use Rattle.words.specs.Words.{doublesOf};
-ghost use Rattle.model.specs.Numbers.{lent};
+ghost use Rattle.network.specs.Numbers.{lent};
 ghost use Rattle.model.specs.Calls.{shedCapCall, flowOffsetCall, generatorCostCall, evaluateCall};
 ghost use Rattle.capi.specs.Exports.{out, whole, allWhole, decoded, filledOut};
 ghost use Rattle.capi.specs.Decoding.{Cells};

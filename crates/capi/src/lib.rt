@@ -3,7 +3,7 @@ mod answer;
 mod buses;
 mod decode;
 mod element;
-mod network;
+mod number;
 
 // Whether a slice was decoded, and how many words it has.
 pub struct Part {

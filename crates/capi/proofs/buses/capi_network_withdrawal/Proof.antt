@@ -5,7 +5,7 @@ use borrow.Author.Tests.{not-false}
 use borrow.Author.Needs.{needs}
 use lib.ListN.{length}
 use Rattle.words.specs.Words.{doublesOf}
-use Rattle.model.specs.Numbers.{Network}
+use Rattle.network.specs.Numbers.{Network}
 use Rattle.model.specs.Calls.{networkCall}
 use Rattle.capi.specs.Exports.{filledOut}
 use Rattle.capi.proofs.Answered.{bus-one, unsized, cut-count, cut-cells, told}

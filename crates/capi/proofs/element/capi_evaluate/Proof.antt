@@ -6,7 +6,7 @@ use borrow.Author.Tests.{not-false}
 use borrow.Author.Needs.{needs}
 use lib.Ieee.{Float}
 use Rattle.words.specs.Words.{doublesOf}
-use Rattle.model.specs.Numbers.{Network}
+use Rattle.network.specs.Numbers.{Network}
 use Rattle.model.specs.Calls.{evaluateCall}
 use Rattle.capi.specs.Exports.{filledOut}
 use Rattle.capi.proofs.Decoded.{network, wholes}
@@ -17,17 +17,17 @@ use Rattle.capi.proofs.element.capi_evaluate.Tie as tie
 returns : tie.Need-returns
 returns c =
     let a = c .before .before .before .before .before .before .before .before .before .before .before .before .before .before .before .before .before .before .args in
-    element-one _ _ _ _ _ _ _ _ _ (unsized-with (network (a .wiring .now) (a .readings .now) (a .term-index .now) (a .term-coefficient .now)) (wholes (a .wiring .now) (a .readings .now) (a .term-index .now) (a .term-coefficient .now)) (a .f .now) (a .pg .now) (c .before .before .before .before .before .before .take-network .ensures) (c .if1 .taken))
+    element-one _ _ _ _ _ _ (doublesOf (a .sheet .now)) _ _ (unsized-with (network (a .wiring .now) (a .readings .now) (a .term-index .now) (a .term-coefficient .now)) (wholes (a .wiring .now) (a .readings .now) (a .term-index .now) (a .term-coefficient .now)) (a .f .now) (a .pg .now) (c .before .before .before .before .before .before .take-network .ensures) (c .if1 .taken))
 
 returns-2 : tie.Need-returns-2
 returns-2 c =
     let a = c .before .before .before .before .before .before .before .before .before .before .before .before .before .before .before .before .before .before .before .before .before .before .before .args in
-    element-one _ _ _ _ _ _ _ _ _ (unsized-flows (network (a .wiring .now) (a .readings .now) (a .term-index .now) (a .term-coefficient .now)) (wholes (a .wiring .now) (a .readings .now) (a .term-index .now) (a .term-coefficient .now)) (a .f .now) (a .pg .now) (c .before .before .before .take-doubles .ensures .0) (c .if2 .taken))
+    element-one _ _ _ _ _ _ (doublesOf (a .sheet .now)) _ _ (unsized-flows (network (a .wiring .now) (a .readings .now) (a .term-index .now) (a .term-coefficient .now)) (wholes (a .wiring .now) (a .readings .now) (a .term-index .now) (a .term-coefficient .now)) (a .f .now) (a .pg .now) (c .before .before .before .take-doubles .ensures .0) (c .if2 .taken))
 
 returns-3 : tie.Need-returns-3
 returns-3 c =
     let a = c .before .before .before .before .before .before .before .before .before .before .before .before .before .before .before .before .before .before .before .before .before .before .before .before .before .before .before .before .args in
-    element-one _ _ _ _ _ _ _ _ _ (unsized-powers (network (a .wiring .now) (a .readings .now) (a .term-index .now) (a .term-coefficient .now)) (wholes (a .wiring .now) (a .readings .now) (a .term-index .now) (a .term-coefficient .now)) (a .f .now) (a .pg .now) (c .before .before .before .take-doubles2 .ensures .0) (c .if3 .taken))
+    element-one _ _ _ _ _ _ (doublesOf (a .sheet .now)) _ _ (unsized-powers (network (a .wiring .now) (a .readings .now) (a .term-index .now) (a .term-coefficient .now)) (wholes (a .wiring .now) (a .readings .now) (a .term-index .now) (a .term-coefficient .now)) (a .f .now) (a .pg .now) (c .before .before .before .take-doubles2 .ensures .0) (c .if3 .taken))
 
 array-share-prefix-w : tie.Need-array-share-prefix-w
 array-share-prefix-w c = c .before .before .before .before .before .before .before .before .before .before .before .before .before .before .before .before .before .take-network .ensures .decoded (not-false _ (c .before .before .before .before .before .before .before .before .before .before .before .if1 .left)) .1 .wiring-room

@@ -5,7 +5,7 @@ use borrow.Author.Tests.{not-false}
 use borrow.Author.Needs.{needs}
 use lib.ListN.{length}
 use Rattle.words.specs.Words.{doublesOf}
-use Rattle.model.specs.Numbers.{Network}
+use Rattle.network.specs.Numbers.{Network}
 use Rattle.model.specs.Calls.{shedCapCall}
 use Rattle.capi.specs.Exports.{filledOut}
 use Rattle.capi.proofs.Answered.{element-one, unsized, cut-count, cut-cells, told}
@@ -13,7 +13,9 @@ use Rattle.capi.proofs.element.capi_shed_cap.Statement.{statement}
 use Rattle.capi.proofs.element.capi_shed_cap.Tie as tie
 
 returns : tie.Need-returns
-returns c = element-one _ _ _ _ _ _ _ _ _ (unsized (c .before .before .before .before .before .before .take-network .ensures) (c .if1 .taken))
+returns c =
+    let a = c .before .before .before .before .before .before .before .before .before .before .before .before .before .before .before .before .args in
+    element-one _ _ _ _ _ _ (doublesOf (a .sheet .now)) _ _ (unsized (c .before .before .before .before .before .before .take-network .ensures) (c .if1 .taken))
 
 array-share-prefix-w : tie.Need-array-share-prefix-w
 array-share-prefix-w c = c .before .before .before .before .before .before .before .take-network .ensures .decoded (not-false _ (c .before .if1 .left)) .1 .wiring-room

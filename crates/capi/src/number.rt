@@ -1,9 +1,9 @@
 // The number of a network.
 use crate::decode::take_network;
-use model::check::network_number;
+use network::check::network_number;
 ghost use mathlib.Core.Path.{_≡_};
 ghost use mathlib.Core.Bool.{cond};
-ghost use Rattle.model.specs.Numbers.{networkNumber};
+ghost use Rattle.network.specs.Numbers.{networkNumber};
 ghost use Rattle.capi.specs.Exports.{allWhole, decoded};
 
 fn wide(x: u32) -> u64

@@ -1,12 +1,12 @@
--- `capi::network::capi_network_number` meets its contract: 1 at once, or the number of what was decoded. Assumes nothing.
+-- `capi::number::capi_network_number` meets its contract: 1 at once, or the number of what was decoded. Assumes nothing.
 use mathlib.Core.Path.{_∙_}
 use mathlib.Core.Bool.{Bool, cond}
 use borrow.Author.Tests.{not-false}
 use borrow.Author.Needs.{needs}
-use Rattle.model.specs.Numbers.{Network, networkNumber}
+use Rattle.network.specs.Numbers.{Network, networkNumber}
 use Rattle.capi.proofs.Answered.{number-one, cut-count, number-told}
-use Rattle.capi.proofs.network.capi_network_number.Statement.{statement}
-use Rattle.capi.proofs.network.capi_network_number.Tie as tie
+use Rattle.capi.proofs.number.capi_network_number.Statement.{statement}
+use Rattle.capi.proofs.number.capi_network_number.Tie as tie
 
 returns : tie.Need-returns
 returns c = number-one (c .before .before .before .before .before .before .take-network .ensures) (c .if1 .taken)

@@ -1,8 +1,8 @@
 -- The laws of a call's answer on bytes: a result that goes by way of cells, and a call that is refused at once. Assumes nothing.
-use mathlib.Core.Path.{_≡_, refl, sym, ap, _∙_, subst}
+use mathlib.Core.Path.{_≡_, refl, sym, ap, _∙_}
 use mathlib.Core.Bool.{Bool, true, false, cond, not, _&&_}
 use mathlib.Core.List.{List, [], _∷_, _++_}
-use Prim.Native.Nat.{ℕ, _+_, _*_, _/_, _≤_, _<_}
+use Prim.Native.Nat.{ℕ, _+_, _/_, _≤_, _<_}
 use native.Mathlib.Omega.{arith}
 use native.Mathlib.Decide.{ℕ-discrete, decLt}
 use lib.Dec.{T, eqb, ltb, leb}
@@ -14,7 +14,7 @@ use Rattle.sequence.specs.Lists.{front, made}
 use Rattle.sequence.specs.Answers.{Test, test, firstOf, marked, short, Filled, filled, fills}
 use Rattle.sequence.proofs.Lists.{and-left, and-right, failed, held as kept, made-length}
 use Rattle.sequence.proofs.Answers.{holding, first-stands, first-passes}
-use Rattle.words.specs.Words.{doubleAt, doublesOf, doubleBytes, joined}
+use Rattle.words.specs.Words.{doubleAt, doublesOf, joined}
 use Rattle.words.proofs.Laws.{take-front}
 use Rattle.network.specs.Layout.{Few}
 use Rattle.network.specs.Numbers.{Network, networkTests, networkNumber, sizesHold}

@@ -1,23 +1,21 @@
 -- The laws of decoding: which slices fit their arrays, and that a network with a slice that does not has number 1. Assumes nothing.
-use mathlib.Core.Path.{_≡_, refl, sym, ap, _∙_, subst}
-use mathlib.Core.Bool.{Bool, true, false, not, _&&_}
+use mathlib.Core.Path.{_≡_, refl, sym, _∙_, subst}
+use mathlib.Core.Bool.{Bool, true, false, _&&_}
 use mathlib.Core.List.{List}
-use Prim.Native.Nat.{ℕ, _+_, _*_, _/_, _%_, _≤_, _<_}
+use Prim.Native.Nat.{ℕ, _/_, _%_, _≤_, _<_}
 use native.Mathlib.Omega.{arith}
-use lib.Dec.{T, eqb, leb}
-use lib.ListN.{length, take}
-use lib.Ieee.{Float}
+use lib.Dec.{T}
+use lib.ListN.{length}
 use borrow.Author.Tests.{ne-eqb, eq-eqb, le-leb, lt-leb}
 use Rattle.sequence.specs.Lists.{front, made}
 use Rattle.sequence.proofs.Lists.{and-left, and-right, made-length}
 use Rattle.words.specs.Words.{wordAt, doubleAt, wordsOf, doublesOf}
 use Rattle.words.proofs.Laws.{take-made}
-use Rattle.network.specs.Layout.{countsOf}
 use Rattle.network.specs.Numbers.{Network, sizesHold}
 use Rattle.network.proofs.Tests.{sized-few, sized-wiring, sized-readings, sized-indexes, sized-coefficients}
 use Rattle.capi.specs.declared.Lengths.{Lengths}
 use Rattle.capi.specs.Exports.{whole}
-use Rattle.capi.specs.Decoding.{fits, Held, Arrays, arrays, cut, Holds, Read, Greatest}
+use Rattle.capi.specs.Decoding.{fits, Held, Arrays, cut, Read, Greatest}
 
 pub never : {A : Type 0} → false ≡ true → A
 never e = absurd (subst T (sym e) tt)

@@ -1,24 +1,24 @@
 -- The laws of the susceptance list on bytes: it goes by way of cells, or is refused at once. Assumes nothing.
-use mathlib.Core.Path.{_≡_, refl, sym, ap, _∙_}
+use mathlib.Core.Path.{_≡_, refl, ap, _∙_}
 use mathlib.Core.Bool.{Bool, true, false, cond, _&&_}
-use mathlib.Core.List.{List, [], _∷_, _++_}
-use Prim.Native.Nat.{ℕ, _+_, _*_, _/_, _≤_, _<_, min}
+use mathlib.Core.List.{List}
+use Prim.Native.Nat.{ℕ, _≤_, min}
 use native.Mathlib.Omega.{arith}
-use lib.Dec.{T, eqb, ltb}
+use lib.Dec.{eqb}
 use lib.ListN.{length, take, length-map}
 use lib.Seq.{length-take-le}
 use lib.Ieee.{Float}
 use borrow.Author.Tests.{ltb-false, eqb-true}
-use Rattle.sequence.specs.Lists.{front, made}
+use Rattle.sequence.specs.Lists.{front}
 use Rattle.sequence.specs.Answers.{firstOf, marked}
 use Rattle.sequence.specs.Sheets.{Triplet, rowsOf, colsOf, valuesOf, Laid, laid, lays, room, shortList}
 use Rattle.sequence.proofs.Lists.{made-length}
-use Rattle.words.specs.Words.{wordAt, doubleAt, wordsOf, doublesOf, wordBytes, doubleBytes, joined}
+use Rattle.words.specs.Words.{wordsOf, doublesOf, wordBytes, doubleBytes, joined}
 use Rattle.words.proofs.Laws.{take-front}
 use Rattle.network.specs.Numbers.{Network, networkTests, sizesHold}
 use Rattle.model.specs.Susceptance.{susceptanceCoo}
 use Rattle.model.specs.Calls.{counted, listNumber, susceptanceCall}
-use Rattle.capi.specs.Exports.{Outs, outs, packed, laidOut}
+use Rattle.capi.specs.Exports.{outs, packed, laidOut}
 use Rattle.capi.specs.Decoding.{listRoom, ListCells}
 use Rattle.capi.proofs.Answered.{last-passed, last-same, short-same, few-counts, size-fails}
 use Rattle.capi.proofs.Cells.{list-length}

@@ -6,7 +6,6 @@ use mathlib.Core.List.{List}
 use lib.ListN.{length, take}
 use lib.Dec.{leb}
 use lib.Ieee.{Float}
-use Rattle.words.specs.Words.{wordsOf, doublesOf}
 use Rattle.network.specs.Numbers.{Network, sizesHold}
 use Rattle.capi.specs.declared.Lengths.{Lengths}
 use Rattle.capi.specs.Exports.{whole}

@@ -3,7 +3,6 @@ use mathlib.Core.Path.{_∙_}
 use mathlib.Core.Bool.{Bool}
 use borrow.Author.Tests.{not-false}
 use borrow.Author.Needs.{needs}
-use lib.ListN.{length}
 use Rattle.words.specs.Words.{doublesOf}
 use Rattle.network.specs.Numbers.{Network}
 use Rattle.model.specs.Calls.{fixedCall}

@@ -1,10 +1,9 @@
 -- `capi::list::capi_susceptance_coo` meets its contract: refused at once, or the call on what was decoded. Assumes nothing.
 use native.Mathlib.Omega.{arith}
-use mathlib.Core.Path.{_≡_, sym, _∙_}
+use mathlib.Core.Path.{_∙_}
 use mathlib.Core.Bool.{Bool}
 use borrow.Author.Tests.{not-false}
 use borrow.Author.Needs.{needs}
-use lib.ListN.{length}
 use Rattle.words.specs.Words.{wordsOf, doublesOf}
 use Rattle.network.specs.Numbers.{Network}
 use Rattle.model.specs.Calls.{susceptanceCall}

@@ -1,7 +1,5 @@
 -- `capi::number::row_kind_out` meets its contract. Assumes nothing.
-use mathlib.Core.Path.{ap}
 use borrow.Author.Needs.{needs}
-use Rattle.model.specs.declared.RowKind.{RowKind}
 use Rattle.capi.proofs.number.row_kind_out.Statement.{statement}
 use Rattle.capi.proofs.number.row_kind_out.Tie as tie
 

@@ -11,7 +11,7 @@ use Rattle.sequence.specs.Lists.{front}
 use Rattle.sequence.specs.Answers.{Filled, filled}
 use Rattle.sequence.specs.Sheets.{Laid, laid}
 use Rattle.words.specs.Words.{wordsOf, doublesOf, wordBytes, doubleBytes}
-use Rattle.model.specs.Numbers.{Network}
+use Rattle.network.specs.Numbers.{Network}
 
 -- the network that four byte slices hold
 abbrev pub decoded : RefT (List ℕ) → RefT (List ℕ) → RefT (List ℕ) → RefT (List ℕ) → Network

@@ -1,11 +1,21 @@
 // The calls as extern "C" functions on numbers and byte slices, for programs in other languages.
-ghost use mathlib.Core.Path.{_≡_};
-ghost use Prim.Native.Nat.{_<_};
-ghost use Rattle.capi.specs.Exports.{packed};
+mod answer;
+mod buses;
+mod decode;
+mod element;
+mod number;
 
-fn pack(number: u32, count: usize) -> u64
-    requires { ⌜ (number < 256) × (count < 0x1_0000_0000) ⌝ }
-    ensures { λ r. ⌜ r ≡ packed number count ⌝ }
-{
-    (number as u64) + 256 * (count as u64)
+// Whether a slice was decoded, and how many words it has.
+pub struct Part {
+    pub ok: bool,
+    pub count: usize,
+}
+
+// Whether a network was decoded, and the lengths of its slices.
+pub struct Lengths {
+    pub ok: bool,
+    pub wiring: usize,
+    pub readings: usize,
+    pub indexes: usize,
+    pub coefficients: usize,
 }

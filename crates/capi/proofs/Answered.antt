@@ -1,0 +1,228 @@
+-- The laws of a call's answer on bytes: a result that goes by way of cells, and a call that is refused at once. Assumes nothing.
+use mathlib.Core.Path.{_≡_, refl, sym, ap, _∙_, subst}
+use mathlib.Core.Bool.{Bool, true, false, cond, not, _&&_}
+use mathlib.Core.List.{List, [], _∷_, _++_}
+use Prim.Native.Nat.{ℕ, _+_, _*_, _/_, _≤_, _<_}
+use native.Mathlib.Omega.{arith}
+use native.Mathlib.Decide.{ℕ-discrete, decLt}
+use lib.Dec.{T, eqb, ltb, leb}
+use lib.ListN.{length, take}
+use lib.Seq.{length-take-le}
+use lib.Ieee.{Float}
+use borrow.Author.Tests.{lt-ltb, le-ltb, ltb-false, eqb-true, not-true}
+use Rattle.sequence.specs.Lists.{front, made}
+use Rattle.sequence.specs.Answers.{Test, test, firstOf, marked, short, Filled, filled, fills}
+use Rattle.sequence.proofs.Lists.{and-left, and-right, failed, held as kept, made-length}
+use Rattle.sequence.proofs.Answers.{holding, first-stands, first-passes}
+use Rattle.words.specs.Words.{doubleAt, doublesOf, doubleBytes, joined}
+use Rattle.words.proofs.Laws.{take-front}
+use Rattle.network.specs.Numbers.{Network, networkTests, networkNumber, sizesHold}
+use Rattle.model.specs.Calls.{counted, elementNumber, elementCall, sheetNumber, busCall}
+use Rattle.network.proofs.Tests.{number-size, sized-few}
+use Rattle.capi.specs.declared.Lengths.{Lengths}
+use Rattle.capi.specs.Exports.{Out, out, whole, filledOut}
+use Rattle.capi.specs.Decoding.{fits, Arrays, Read, Cells}
+use Rattle.capi.proofs.Decoded.{never, contrary, fits-of, whole-of}
+
+-- ---- a result's bytes do not depend on the sheet that it is cut from
+
+refill-by : (b : Bool) (n : ℕ) (result s t : List Float) (bs : List ℕ)
+    → filledOut true (cond b (filled 0 (length result) (front result s)) (filled n 0 s)) bs ≡ filledOut true (cond b (filled 0 (length result) (front result t)) (filled n 0 t)) bs
+unfolding filledOut
+refill-by true n result s t bs = rw (take-front result s (length result) refl, take-front result t (length result) refl)
+refill-by false n result s t bs = refl
+
+refill : (n : ℕ) (result s t : List Float) (bs : List ℕ) → filledOut true (fills n result s) bs ≡ filledOut true (fills n result t) bs
+unfolding fills
+refill n result s t bs = refill-by (eqb n 0) n result s t bs
+
+count-by : (b : Bool) (n : ℕ) (result s : List Float) → (b ≡ true → length result ≤ length s) → (cond b (filled 0 (length result) (front result s)) (filled n 0 s)) .count ≤ length s
+count-by true n result s h = h refl
+count-by false n result s h = omega arith
+
+count-of : (n : ℕ) (result s : List Float) → (n ≡ 0 → length result ≤ length s) → (fills n result s) .count ≤ length s
+unfolding fills
+count-of n result s h = count-by (eqb n 0) n result s (λ e. h (eqb-true n 0 e))
+
+short-same : (a b k : ℕ) → (k ≤ a → k ≤ b) → (k ≤ b → k ≤ a) → ltb a k ≡ ltb b k
+short-same a b k f g = go (decLt a k)
+  where
+    go : Dec (a < k) → ltb a k ≡ ltb b k
+    go (yes p) =
+        lt-ltb a k p ∙ sym (lt-ltb b k (other (decLt b k)))
+      where
+        other : Dec (b < k) → b < k
+        other (yes q) = q
+        other (no q) = let z : k ≤ a = g (omega arith) in absurd (omega arith)
+    go (no p) = let z : k ≤ b = f (omega arith) in le-ltb a k (omega arith) ∙ sym (le-ltb b k z)
+
+-- ---- a call whose last test is of its sheet's room
+
+module _ (ts : List Test) (m : T (marked ts)) where
+  last-passed : (b : Bool) → firstOf (ts ++ test 7 b ∷ []) ≡ 0 → b ≡ false
+  last-passed false e = refl
+  last-passed true e = go (ℕ-discrete (firstOf ts) 0)
+    where
+      go : Dec (firstOf ts ≡ 0) → true ≡ false
+      go (yes z) = absurd (omega (arith, e, first-passes ts (test 7 true ∷ []) m z, holding 7 true [] refl))
+      go (no z) = absurd (z (sym (first-stands ts (test 7 true ∷ []) m z) ∙ e))
+
+  module _ (result : List Float) where
+    abbrev number : List Float → ℕ
+    number s = firstOf (ts ++ test 7 (short result s) ∷ [])
+
+    number-same : (s t : List Float) → (firstOf ts ≡ 0 → short result s ≡ short result t) → number s ≡ number t
+    number-same s t h = go (ℕ-discrete (firstOf ts) 0)
+      where
+        go : Dec (firstOf ts ≡ 0) → number s ≡ number t
+        go (yes z) = rw (h z)
+        go (no z) = first-stands ts _ m z ∙ sym (first-stands ts _ m z)
+
+    module _ (most : ℕ) (bs : List ℕ) (cells : List Float) (room : Cells most (length bs) (length cells)) (small : firstOf ts ≡ 0 → length result ≤ most) {n k : ℕ} {new : List Float} (e : filled n k new ≡ fills (number cells) result cells) where
+      rooms : firstOf ts ≡ 0 → short result cells ≡ short result (doublesOf bs)
+      rooms z =
+          short-same (length cells) (length (doublesOf bs)) (length result)
+          (λ l. omega (arith, made-length (doubleAt bs) (length bs / 8), room .within))
+          (λ l. room .enough (length result) (small z) (omega (arith, made-length (doubleAt bs) (length bs / 8))))
+
+      answer : filledOut true (filled n k new) bs ≡ filledOut true (fills (number (doublesOf bs)) result (doublesOf bs)) bs
+      answer =
+          ap (λ (a : Filled Float). filledOut true a bs) e
+          ∙ refill (number cells) result cells (doublesOf bs) bs
+          ∙ ap (λ (j : ℕ). filledOut true (fills j result (doublesOf bs)) bs) (number-same cells (doublesOf bs) rooms)
+
+      counts : k ≤ length cells
+      counts = rw (ap (λ (a : Filled Float). a .count) e) (count-of (number cells) result cells (λ z. ltb-false _ _ (last-passed (short result cells) z)))
+
+-- a call for one number of an element
+module _ (N : Network) (sizes values : Bool) (i count : ℕ) (x : Float) (bs : List ℕ) (cells : List Float) (room : Cells 1 (length bs) (length cells)) {n k : ℕ} {new : List Float} (e : filled n k new ≡ elementCall N sizes values i count x cells) where
+  pub element-answer : filledOut true (filled n k new) bs ≡ filledOut true (elementCall N sizes values i count x (doublesOf bs)) bs
+  unfolding elementNumber marked
+  element-answer = answer (networkTests N sizes values ++ test 5 (leb count i) ∷ []) tt (x ∷ []) 1 bs cells room (λ z. omega arith) e
+
+  pub element-count : k ≤ length cells
+  unfolding elementNumber marked
+  element-count = counts (networkTests N sizes values ++ test 5 (leb count i) ∷ []) tt (x ∷ []) 1 bs cells room (λ z. omega arith) e
+
+-- the network's tests pass only where the buses are few
+few-buses : (N : Network) (b : Bool) → sizesHold N ≡ b → firstOf (networkTests N true true) ≡ 0 → counted N .buses ≤ 256
+few-buses N true h z = sized-few N h .buses
+few-buses N false h z = absurd (omega (arith, number-size N true true h))
+
+-- a call for a number for every bus
+module _ (N : Network) (f : ℕ → Float) (bs : List ℕ) (cells : List Float) (room : Cells 256 (length bs) (length cells)) {n k : ℕ} {new : List Float} (e : filled n k new ≡ busCall N f cells) where
+  small : firstOf (networkTests N true true) ≡ 0 → length (made f (counted N .buses)) ≤ 256
+  small z = rw made-length (few-buses N (sizesHold N) refl z)
+
+  pub bus-answer : filledOut true (filled n k new) bs ≡ filledOut true (busCall N f (doublesOf bs)) bs
+  unfolding sheetNumber marked
+  bus-answer = answer (networkTests N true true) tt (made f (counted N .buses)) 256 bs cells room small e
+
+  pub bus-count : k ≤ length cells
+  unfolding sheetNumber marked
+  bus-count = counts (networkTests N true true) tt (made f (counted N .buses)) 256 bs cells room small e
+
+-- ---- sizes that do not hold are refused at once, whatever tests follow
+
+one-by : (ok : Bool) (number : ℕ) (result sheet : List Float) (bs : List ℕ) → (ok ≡ true → number ≡ 1) → out 1 bs ≡ filledOut ok (fills number result sheet) bs
+unfolding filledOut fills front joined
+one-by false number result sheet bs h = refl
+one-by true number result sheet bs h = rw (h refl)
+
+size-fails : (N : Network) (sizes values : Bool) (ts : List Test) (ok : Bool) → ok && (sizesHold N && sizes) ≡ false → ok ≡ true → firstOf (networkTests N sizes values ++ ts) ≡ 1
+size-fails N sizes values ts true e z = holding 1 _ _ (rw e)
+size-fails N sizes values ts false e z = never z
+
+pub element-one : (N : Network) (sizes values : Bool) (i count : ℕ) (x : Float) (sheet : List Float) (ok : Bool) (bs : List ℕ) → ok && (sizesHold N && sizes) ≡ false → out 1 bs ≡ filledOut ok (elementCall N sizes values i count x sheet) bs
+unfolding elementNumber
+element-one N sizes values i count x sheet ok bs e = one-by ok _ (x ∷ []) sheet bs (size-fails N sizes values _ ok e)
+
+pub bus-one : (N : Network) (f : ℕ → Float) (sheet : List Float) (ok : Bool) (bs : List ℕ) → ok && (sizesHold N && true) ≡ false → out 1 bs ≡ filledOut ok (busCall N f sheet) bs
+unfolding sheetNumber
+bus-one N f sheet ok bs e = one-by ok _ (made f (counted N .buses)) sheet bs (size-fails N true true _ ok e)
+
+own-true : (ok sized : Bool) → ok && sized ≡ false → ok && (sized && true) ≡ false
+own-true false sized e = refl
+own-true true true e = e
+own-true true false e = refl
+
+-- a network that was not decoded, in a call with no sizes of its own
+pub unsized : {ok : Bool} {N : Network} {l : Lengths} {A : Arrays} → Read ok N l A → not (l .ok) ≡ true → ok && (sizesHold N && true) ≡ false
+unsized {ok} {N} r h = own-true ok (sizesHold N) (r .refused (not-true _ h))
+
+-- ---- an export whose slices were decoded
+
+pub cut-count : {A : Type 0} (n : ℕ) (xs : List A) → n ≤ length xs → n ≡ length (take n xs)
+cut-count n xs h = sym (length-take-le n xs h)
+
+pub cut-cells : {most bytes n : ℕ} (xs : List Float) → n ≤ length xs → Cells most bytes n → Cells most bytes (length (take n xs))
+cut-cells {n = n} xs h r = rw (length-take-le n xs h) r
+
+pub told : (f : Bool → Network → Out) {b : Bool} {M N : Network} → b ≡ true → M ≡ N → f true M ≡ f b N
+told f {N = N} e q = ap (f true) q ∙ ap (λ (t : Bool). f t N) (sym e)
+
+-- the number of a network alone
+
+number-by : (N : Network) (ok : Bool) → ok && sizesHold N ≡ false → 1 ≡ cond ok (networkNumber N) 1
+unfolding networkNumber
+number-by N true e = number-size N true true e
+number-by N false e = refl
+
+pub number-one : {ok : Bool} {N : Network} {l : Lengths} {A : Arrays} → Read ok N l A → not (l .ok) ≡ true → 1 ≡ cond ok (networkNumber N) 1
+number-one {ok} {N} r h = number-by N ok (r .refused (not-true _ h))
+
+pub number-told : {b : Bool} {M N : Network} → b ≡ true → M ≡ N → networkNumber M ≡ cond b (networkNumber N) 1
+number-told e q = rw (e, q)
+
+-- ---- a call with flows and powers of its own
+
+abbrev whole-with : Bool → List ℕ → List ℕ → Bool
+whole-with ok f pg = ok && (whole 8 f && whole 8 pg)
+
+abbrev sized-with : Network → List ℕ → List ℕ → Bool
+sized-with N f pg = sizesHold N && (eqb (length (doublesOf f)) (counted N .branches) && eqb (length (doublesOf pg)) (counted N .generators))
+
+module _ (N : Network) (ok : Bool) (f pg : List ℕ) where
+  module _ (e : whole-with ok f pg && sized-with N f pg ≡ true) where
+    wholes-hold : whole-with ok f pg ≡ true
+    wholes-hold = and-left (whole-with ok f pg) (sized-with N f pg) e
+
+    own-wholes : whole 8 f && whole 8 pg ≡ true
+    own-wholes = and-right ok _ wholes-hold
+
+    sizes-hold : sized-with N f pg ≡ true
+    sizes-hold = and-right (whole-with ok f pg) (sized-with N f pg) e
+
+    sized : sizesHold N ≡ true
+    sized = and-left (sizesHold N) _ sizes-hold
+
+    own-sizes : eqb (length (doublesOf f)) (counted N .branches) && eqb (length (doublesOf pg)) (counted N .generators) ≡ true
+    own-sizes = and-right (sizesHold N) _ sizes-hold
+
+    both : ok && sizesHold N ≡ true
+    both = rw (and-left ok _ wholes-hold, sized)
+
+    flows-fit : fits 8 f 512 ≡ true
+    flows-fit =
+        let l : length (doublesOf f) ≡ counted N .branches = eqb-true _ _ (and-left (eqb (length (doublesOf f)) (counted N .branches)) _ own-sizes) in
+        fits-of 8 f 512 (and-left (whole 8 f) _ own-wholes) (omega (arith, sized-few N sized .branches, made-length (doubleAt f) (length f / 8)))
+
+    powers-fit : fits 8 pg 256 ≡ true
+    powers-fit =
+        let l : length (doublesOf pg) ≡ counted N .generators = eqb-true _ _ (and-right (eqb (length (doublesOf f)) (counted N .branches)) _ own-sizes) in
+        fits-of 8 pg 256 (and-right (whole 8 f) _ own-wholes) (omega (arith, sized-few N sized .generators, made-length (doubleAt pg) (length pg / 8)))
+
+  pub unsized-with : {l : Lengths} {A : Arrays} → Read ok N l A → not (l .ok) ≡ true → whole-with ok f pg && sized-with N f pg ≡ false
+  unsized-with r h = contrary _ _ both (r .refused (not-true _ h))
+
+  pub unsized-flows : {r : Bool} → r ≡ fits 8 f 512 → not r ≡ true → whole-with ok f pg && sized-with N f pg ≡ false
+  unsized-flows e h = contrary _ _ flows-fit (failed e h)
+
+  pub unsized-powers : {r : Bool} → r ≡ fits 8 pg 256 → not r ≡ true → whole-with ok f pg && sized-with N f pg ≡ false
+  unsized-powers e h = contrary _ _ powers-fit (failed e h)
+
+  pub wholly : ok ≡ true → {r s : Bool} → r ≡ fits 8 f 512 → not r ≡ false → s ≡ fits 8 pg 256 → not s ≡ false → whole-with ok f pg ≡ true
+  wholly o e h d g = rw (o, whole-of 8 f 512 (kept e h), whole-of 8 pg 256 (kept d g))
+
+pub told-with : (g : Bool → Network → List Float → List Float → Out) {b : Bool} {M N : Network} {F F′ P P′ : List Float} → b ≡ true → M ≡ N → F ≡ F′ → P ≡ P′ → g true M F P ≡ g b N F′ P′
+told-with g e q r s = rw (e, q, r, s)

@@ -16,11 +16,12 @@ use Rattle.sequence.proofs.Lists.{and-left, and-right, failed, held as kept, ma
 use Rattle.sequence.proofs.Answers.{holding, first-stands, first-passes}
 use Rattle.words.specs.Words.{doubleAt, doublesOf, doubleBytes, joined}
 use Rattle.words.proofs.Laws.{take-front}
+use Rattle.network.specs.Layout.{Few}
 use Rattle.network.specs.Numbers.{Network, networkTests, networkNumber, sizesHold}
-use Rattle.model.specs.Calls.{counted, elementNumber, elementCall, sheetNumber, busCall}
+use Rattle.model.specs.Calls.{rowKindNumber, rowKindCall, counted, elementNumber, elementCall, sheetNumber, busCall}
 use Rattle.network.proofs.Tests.{number-size, sized-few}
 use Rattle.capi.specs.declared.Lengths.{Lengths}
-use Rattle.capi.specs.Exports.{Out, out, whole, filledOut}
+use Rattle.capi.specs.Exports.{Out, out, packed, whole, filledOut}
 use Rattle.capi.specs.Decoding.{fits, Arrays, Read, Cells}
 use Rattle.capi.proofs.Decoded.{never, contrary, fits-of, whole-of}
 
@@ -44,7 +45,7 @@ count-of : (n : ℕ) (result s : List Float) → (n ≡ 0 → length result ≤ 
 unfolding fills
 count-of n result s h = count-by (eqb n 0) n result s (λ e. h (eqb-true n 0 e))
 
-short-same : (a b k : ℕ) → (k ≤ a → k ≤ b) → (k ≤ b → k ≤ a) → ltb a k ≡ ltb b k
+pub short-same : (a b k : ℕ) → (k ≤ a → k ≤ b) → (k ≤ b → k ≤ a) → ltb a k ≡ ltb b k
 short-same a b k f g = go (decLt a k)
   where
     go : Dec (a < k) → ltb a k ≡ ltb b k
@@ -59,7 +60,7 @@ short-same a b k f g = go (decLt a k)
 -- ---- a call whose last test is of its sheet's room
 
 module _ (ts : List Test) (m : T (marked ts)) where
-  last-passed : (b : Bool) → firstOf (ts ++ test 7 b ∷ []) ≡ 0 → b ≡ false
+  pub last-passed : (b : Bool) → firstOf (ts ++ test 7 b ∷ []) ≡ 0 → b ≡ false
   last-passed false e = refl
   last-passed true e = go (ℕ-discrete (firstOf ts) 0)
     where
@@ -67,16 +68,16 @@ module _ (ts : List Test) (m : T (marked ts)) where
       go (yes z) = absurd (omega (arith, e, first-passes ts (test 7 true ∷ []) m z, holding 7 true [] refl))
       go (no z) = absurd (z (sym (first-stands ts (test 7 true ∷ []) m z) ∙ e))
 
+  pub last-same : (a b : Bool) → (firstOf ts ≡ 0 → a ≡ b) → firstOf (ts ++ test 7 a ∷ []) ≡ firstOf (ts ++ test 7 b ∷ [])
+  last-same a b h = go (ℕ-discrete (firstOf ts) 0)
+    where
+      go : Dec (firstOf ts ≡ 0) → firstOf (ts ++ test 7 a ∷ []) ≡ firstOf (ts ++ test 7 b ∷ [])
+      go (yes z) = rw (h z)
+      go (no z) = first-stands ts _ m z ∙ sym (first-stands ts _ m z)
+
   module _ (result : List Float) where
     abbrev number : List Float → ℕ
     number s = firstOf (ts ++ test 7 (short result s) ∷ [])
-
-    number-same : (s t : List Float) → (firstOf ts ≡ 0 → short result s ≡ short result t) → number s ≡ number t
-    number-same s t h = go (ℕ-discrete (firstOf ts) 0)
-      where
-        go : Dec (firstOf ts ≡ 0) → number s ≡ number t
-        go (yes z) = rw (h z)
-        go (no z) = first-stands ts _ m z ∙ sym (first-stands ts _ m z)
 
     module _ (most : ℕ) (bs : List ℕ) (cells : List Float) (room : Cells most (length bs) (length cells)) (small : firstOf ts ≡ 0 → length result ≤ most) {n k : ℕ} {new : List Float} (e : filled n k new ≡ fills (number cells) result cells) where
       rooms : firstOf ts ≡ 0 → short result cells ≡ short result (doublesOf bs)
@@ -89,7 +90,7 @@ module _ (ts : List Test) (m : T (marked ts)) where
       answer =
           ap (λ (a : Filled Float). filledOut true a bs) e
           ∙ refill (number cells) result cells (doublesOf bs) bs
-          ∙ ap (λ (j : ℕ). filledOut true (fills j result (doublesOf bs)) bs) (number-same cells (doublesOf bs) rooms)
+          ∙ ap (λ (j : ℕ). filledOut true (fills j result (doublesOf bs)) bs) (last-same (short result cells) (short result (doublesOf bs)) rooms)
 
       counts : k ≤ length cells
       counts = rw (ap (λ (a : Filled Float). a .count) e) (count-of (number cells) result cells (λ z. ltb-false _ _ (last-passed (short result cells) z)))
@@ -104,15 +105,18 @@ module _ (N : Network) (sizes values : Bool) (i count : ℕ) (x : Float) (bs : L
   unfolding elementNumber marked
   element-count = counts (networkTests N sizes values ++ test 5 (leb count i) ∷ []) tt (x ∷ []) 1 bs cells room (λ z. omega arith) e
 
--- the network's tests pass only where the buses are few
-few-buses : (N : Network) (b : Bool) → sizesHold N ≡ b → firstOf (networkTests N true true) ≡ 0 → counted N .buses ≤ 256
-few-buses N true h z = sized-few N h .buses
-few-buses N false h z = absurd (omega (arith, number-size N true true h))
+-- the network's tests pass only where the counts are few
+few-by : (N : Network) (b : Bool) → sizesHold N ≡ b → firstOf (networkTests N true true) ≡ 0 → Few (counted N)
+few-by N true h z = sized-few N h
+few-by N false h z = absurd (omega (arith, number-size N true true h))
+
+pub few-counts : (N : Network) → firstOf (networkTests N true true) ≡ 0 → Few (counted N)
+few-counts N = few-by N (sizesHold N) refl
 
 -- a call for a number for every bus
 module _ (N : Network) (f : ℕ → Float) (bs : List ℕ) (cells : List Float) (room : Cells 256 (length bs) (length cells)) {n k : ℕ} {new : List Float} (e : filled n k new ≡ busCall N f cells) where
   small : firstOf (networkTests N true true) ≡ 0 → length (made f (counted N .buses)) ≤ 256
-  small z = rw made-length (few-buses N (sizesHold N) refl z)
+  small z = rw made-length (few-counts N z .buses)
 
   pub bus-answer : filledOut true (filled n k new) bs ≡ filledOut true (busCall N f (doublesOf bs)) bs
   unfolding sheetNumber marked
@@ -129,7 +133,7 @@ unfolding filledOut fills front joined
 one-by false number result sheet bs h = refl
 one-by true number result sheet bs h = rw (h refl)
 
-size-fails : (N : Network) (sizes values : Bool) (ts : List Test) (ok : Bool) → ok && (sizesHold N && sizes) ≡ false → ok ≡ true → firstOf (networkTests N sizes values ++ ts) ≡ 1
+pub size-fails : (N : Network) (sizes values : Bool) (ts : List Test) (ok : Bool) → ok && (sizesHold N && sizes) ≡ false → ok ≡ true → firstOf (networkTests N sizes values ++ ts) ≡ 1
 size-fails N sizes values ts true e z = holding 1 _ _ (rw e)
 size-fails N sizes values ts false e z = never z
 
@@ -141,7 +145,7 @@ pub bus-one : (N : Network) (f : ℕ → Float) (sheet : List Float) (ok : Bool)
 unfolding sheetNumber
 bus-one N f sheet ok bs e = one-by ok _ (made f (counted N .buses)) sheet bs (size-fails N true true _ ok e)
 
-own-true : (ok sized : Bool) → ok && sized ≡ false → ok && (sized && true) ≡ false
+pub own-true : (ok sized : Bool) → ok && sized ≡ false → ok && (sized && true) ≡ false
 own-true false sized e = refl
 own-true true true e = e
 own-true true false e = refl
@@ -158,7 +162,7 @@ cut-count n xs h = sym (length-take-le n xs h)
 pub cut-cells : {most bytes n : ℕ} (xs : List Float) → n ≤ length xs → Cells most bytes n → Cells most bytes (length (take n xs))
 cut-cells {n = n} xs h r = rw (length-take-le n xs h) r
 
-pub told : (f : Bool → Network → Out) {b : Bool} {M N : Network} → b ≡ true → M ≡ N → f true M ≡ f b N
+pub told : {A : Type 0} (f : Bool → Network → A) {b : Bool} {M N : Network} → b ≡ true → M ≡ N → f true M ≡ f b N
 told f {N = N} e q = ap (f true) q ∙ ap (λ (t : Bool). f t N) (sym e)
 
 -- the number of a network alone
@@ -171,8 +175,18 @@ number-by N false e = refl
 pub number-one : {ok : Bool} {N : Network} {l : Lengths} {A : Arrays} → Read ok N l A → not (l .ok) ≡ true → 1 ≡ cond ok (networkNumber N) 1
 number-one {ok} {N} r h = number-by N ok (r .refused (not-true _ h))
 
-pub number-told : {b : Bool} {M N : Network} → b ≡ true → M ≡ N → networkNumber M ≡ cond b (networkNumber N) 1
-number-told e q = rw (e, q)
+kind-number : (N : Network) (q : ℕ) → sizesHold N ≡ false → rowKindNumber N q ≡ 1
+unfolding rowKindNumber
+kind-number N q e = size-fails N true true _ true (own-true true (sizesHold N) e) refl
+
+-- a row's kind: number and kind in one word
+kind-by : (N : Network) (q : ℕ) (ok : Bool) → ok && sizesHold N ≡ false → 1 ≡ cond ok (packed (rowKindCall N q .number) (rowKindCall N q .kind)) 1
+unfolding rowKindCall
+kind-by N q false e = refl
+kind-by N q true e = rw (kind-number N q e)
+
+pub kind-one : {ok : Bool} {N : Network} {l : Lengths} {A : Arrays} (q : ℕ) → Read ok N l A → not (l .ok) ≡ true → 1 ≡ cond ok (packed (rowKindCall N q .number) (rowKindCall N q .kind)) 1
+kind-one {ok} {N} q r h = kind-by N q ok (r .refused (not-true _ h))
 
 -- ---- a call with flows and powers of its own
 

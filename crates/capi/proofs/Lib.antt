@@ -1,3 +1,5 @@
 -- The laws that the proofs of the exports cite. Assumes nothing.
 pub mod Decoded
 pub mod Answered
+pub mod Cells
+pub mod Listed

@@ -1,5 +1,5 @@
 -- What the decoding of byte slices into arrays leaves, and how much room a result has. Assumes nothing.
-use Prim.Native.Nat.{ℕ, _*_, _/_, _≤_}
+use Prim.Native.Nat.{ℕ, _*_, _/_, _≤_, min}
 use mathlib.Core.Path.{_≡_}
 use mathlib.Core.Bool.{Bool, true, false, _&&_}
 use mathlib.Core.List.{List}
@@ -65,3 +65,13 @@ pub record Cells (most bytes cells : ℕ) : Type 0 where
   pub below : cells ≤ most
   pub within : 8 * cells ≤ bytes
   pub enough : (k : ℕ) → k ≤ most → k ≤ bytes / 8 → k ≤ cells
+
+-- how many triplets three numbers of bytes hold, of at most 2048: four for each of 512 branches
+abbrev pub listRoom : ℕ → ℕ → ℕ → ℕ
+listRoom rows cols values = min 2048 (min (rows / 4) (min (cols / 4) (values / 8)))
+
+-- three sheets of cells for a list that goes to three numbers of bytes
+pub record ListCells (rows cols values r c v : ℕ) : Type 0 where
+  pub in-rows : r ≡ listRoom rows cols values
+  pub in-cols : c ≡ listRoom rows cols values
+  pub in-values : v ≡ listRoom rows cols values

@@ -3,6 +3,7 @@ mod answer;
 mod buses;
 mod decode;
 mod element;
+mod list;
 mod number;
 
 // Whether a slice was decoded, and how many words it has.

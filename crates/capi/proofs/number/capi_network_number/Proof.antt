@@ -4,7 +4,7 @@ use mathlib.Core.Bool.{Bool, cond}
 use borrow.Author.Tests.{not-false}
 use borrow.Author.Needs.{needs}
 use Rattle.network.specs.Numbers.{Network, networkNumber}
-use Rattle.capi.proofs.Answered.{number-one, cut-count, number-told}
+use Rattle.capi.proofs.Answered.{number-one, cut-count, told}
 use Rattle.capi.proofs.number.capi_network_number.Statement.{statement}
 use Rattle.capi.proofs.number.capi_network_number.Tie as tie
 
@@ -38,7 +38,7 @@ slice-aggregate-network-number-4 c = cut-count _ _ (c .before .before .before .b
 returns-2 : tie.Need-returns-2
 returns-2 c =
     let h = c .before .before .before .before .before .before .before .before .before .before .before .before .take-network .ensures .decoded (not-false _ (c .before .before .before .before .before .before .if1 .left)) in
-    c .wide .ensures ∙ c .before .network-number .ensures .0 ∙ number-told (h .0) (h .1 .network)
+    c .wide .ensures .0 ∙ c .before .network-number .ensures .0 ∙ told (λ (b : Bool) (N : Network). cond b (networkNumber N) 1) (h .0) (h .1 .network)
 
 pub capi-network-number-spec : {M : Type 1} → statement M
 capi-network-number-spec =

@@ -28,6 +28,7 @@ fn main() {
         0.0,
     ];
     numbers(&wiring, &readings);
+    susceptances(&wiring, &readings);
 }
 
 fn numbers(wiring: &[u32], readings: &[f64]) {
@@ -49,4 +50,33 @@ fn line(name: &[u8], x: f64) {
     io::write_all(STDOUT_FILENO, name);
     io::print_hex(STDOUT_FILENO, words::pattern(x), 16);
     io::write_all(STDOUT_FILENO, b"\n");
+}
+
+fn susceptances(wiring: &[u32], readings: &[f64]) {
+    let mut rows = [0u32; 8];
+    let mut cols = [0u32; 8];
+    let mut values = [0.0; 8];
+    let answer = model::dc::susceptance_coo(
+        wiring,
+        readings,
+        &wiring[..0],
+        &readings[..0],
+        &mut rows,
+        &mut cols,
+        &mut values,
+    );
+    let count = answer.count;
+    for i in 0..8usize {
+        if i < count {
+            cell(rows[i], cols[i], values[i]);
+        }
+    }
+}
+
+fn cell(row: u32, col: u32, value: f64) {
+    io::write_all(STDOUT_FILENO, b"susceptance ");
+    io::print_decimal(STDOUT_FILENO, row as u64);
+    io::write_all(STDOUT_FILENO, b" ");
+    io::print_decimal(STDOUT_FILENO, col as u64);
+    line(b" ", value);
 }

@@ -173,34 +173,6 @@ module _ {A : Type 0} where
   unfolding front
   front-length new old h = simp (length-append, length-drop) (omega arith)
 
-  -- a sheet whose first n words are f's values, and whose later words are as they were, is a front
-  pub front-made : (f : ℕ → A) (n : ℕ) (d : A) (old new : List A) → length new ≡ length old → n ≤ length old
-      → ((i : ℕ) → i < n → getD new i d ≡ f i) → ((i : ℕ) → n ≤ i → getD new i d ≡ getD old i d) → new ≡ front (made f n) old
-  unfolding front
-  front-made f n d old new e h a b =
-      ext-getD d new (made f n ++ drop (length (made f n)) old)
-      (simp (length-append, length-drop, made-length) (omega arith))
-      (λ i l. ⊎-elim
-      (λ q. a i q ∙ sym (List·getD-append (made f n) _ d i (rw made-length q) ∙ made-at f n i d q))
-      (λ q. b i q ∙ sym (later i q))
-      (below i n))
-    where
-      below : (i n : ℕ) → (i < n) ⊎ (n ≤ i)
-      below i n = go (decLt i n)
-        where
-          go : Dec (i < n) → (i < n) ⊎ (n ≤ i)
-          go (yes p) = inl p
-          go (no p) = inr (omega arith)
-
-      later : (i : ℕ) → n ≤ i → getD (made f n ++ drop (length (made f n)) old) i d ≡ getD old i d
-      later i q =
-          let z : i ≡ length (made f n) + (i - n) = omega (arith, made-length f n) in
-          let y : length (made f n) + (i - n) ≡ i = omega (arith, made-length f n) in
-          ap (λ (j : ℕ). getD (made f n ++ drop (length (made f n)) old) j d) z
-          ∙ getD-append-add (made f n) (drop (length (made f n)) old) (i - n) d
-          ∙ getD-drop (length (made f n)) old (i - n) d
-          ∙ ap (λ (j : ℕ). getD old j d) y
-
   -- a store, read at any place: at the place of the store, or elsewhere
   pub stored-at : (P : A → Type 0) (l : List A) (i : ℕ) (v : A) (j : ℕ) (d : A) → i < length l → (j ≡ i → P v) → ((j ≡ i → ⊥) → P (getD l j d)) → P (getD (set l i v) j d)
   stored-at P l i v j d h p q = go (ℕ-discrete j i)

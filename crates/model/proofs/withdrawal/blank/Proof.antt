@@ -3,7 +3,7 @@ use Prim.Native.Nat.{_-_, _≤_}
 use mathlib.Core.Path.{_≡_, refl}
 use native.Mathlib.Omega.{arith}
 use Rattle.float64.specs.Values.{nought}
-use Rattle.model.proofs.Withdrawals.{Fronted, none, more}
+use Rattle.sequence.proofs.Fronts.{Fronted, none, more}
 use Rattle.model.proofs.withdrawal.blank.Statement.{statement}
 use Rattle.model.proofs.withdrawal.blank.Tie as tie
 

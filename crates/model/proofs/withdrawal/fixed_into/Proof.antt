@@ -5,7 +5,7 @@ use native.Mathlib.Omega.{arith}
 use borrow.Author.Needs.{needs}
 use lib.Ieee.{nan}
 use Rattle.model.specs.Quantities.{fixedAt}
-use Rattle.model.proofs.Withdrawals.{Fronted, none, more, over, unmet}
+use Rattle.sequence.proofs.Fronts.{Fronted, none, more, over, unmet}
 use Rattle.model.proofs.withdrawal.fixed_into.Statement.{statement}
 use Rattle.model.proofs.withdrawal.fixed_into.Tie as tie
 

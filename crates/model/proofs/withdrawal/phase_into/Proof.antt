@@ -8,9 +8,9 @@ use lib.ListN.{length, getD}
 use lib.Ieee.{nan}
 use Rattle.float64.specs.Values.{nought}
 use Rattle.sequence.specs.Lists.{turns}
-use Rattle.sequence.proofs.Lists.{turns-none, turns-more, front-made}
+use Rattle.sequence.proofs.Lists.{turns-none, turns-more}
 use Rattle.model.specs.Quantities.{phaseTurn, phase}
-use Rattle.model.proofs.Withdrawals.{front-at, over}
+use Rattle.sequence.proofs.Fronts.{front-made, front-at, over}
 use Rattle.model.proofs.withdrawal.phase_into.Statement.{statement}
 use Rattle.model.proofs.withdrawal.phase_into.Tie as tie
 

@@ -9,9 +9,10 @@ use native.Mathlib.Omega.{arith}
 use borrow.Author.Tests.{eq-eqb, ne-eqb}
 use lib.Dec.{eqb}
 use lib.ListN.{length, getD, set, drop, length-set, length-append, List·getD-append}
-use lib.Seq.{drop-cons, drop-at, set-at, getD-append-add, getD-drop}
+use native.Mathlib.Decide.{decLt}
+use lib.Seq.{drop-cons, drop-at, set-at, getD-append-add, getD-drop, ext-getD}
 use Rattle.sequence.specs.Lists.{made, front}
-use Rattle.sequence.proofs.Lists.{made-length, made-at, stored-at}
+use Rattle.sequence.proofs.Lists.{made-length, made-at, front-length, stored-at}
 
 module _ {A : Type 0} where
   -- what a front holds: f's values, and then the old words
@@ -25,6 +26,18 @@ module _ {A : Type 0} where
       let z : n + (i - n) ≡ i = omega arith in
       let e = rw made-length at (getD-append-add (made f n) (drop n old) (i - n) d) in
       rw (made-length f n) (rw z at (e ∙ getD-drop n old (i - n) d))
+
+  -- a sheet whose first n words are f's values, and whose later words are as they were, is a front
+  pub front-made : (f : ℕ → A) (n : ℕ) (d : A) (old new : List A) → length new ≡ length old → n ≤ length old
+      → ((i : ℕ) → i < n → getD new i d ≡ f i) → ((i : ℕ) → n ≤ i → getD new i d ≡ getD old i d) → new ≡ front (made f n) old
+  front-made f n d old new e h a b =
+      ext-getD d new (front (made f n) old)
+      (e ∙ sym (front-length (made f n) old (rw made-length h)))
+      (λ i l. go i (decLt i n))
+    where
+      go : (i : ℕ) → Dec (i < n) → getD new i d ≡ getD (front (made f n) old) i d
+      go i (yes q) = a i q ∙ sym (front-at f n old i d q)
+      go i (no q) = let l : n ≤ i = omega arith in b i l ∙ sym (front-later f n old i d l)
 
   -- new is old with its first n words replaced by f's values
   pub record Fronted (f : ℕ → A) (n : ℕ) (old new : List A) : Type 0 where

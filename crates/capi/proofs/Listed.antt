@@ -16,7 +16,7 @@ use Rattle.sequence.proofs.Lists.{made-length}
 use Rattle.words.specs.Words.{wordsOf, doublesOf, wordBytes, doubleBytes, joined}
 use Rattle.words.proofs.Laws.{take-front}
 use Rattle.network.specs.Numbers.{Network, networkTests, sizesHold}
-use Rattle.model.specs.Susceptance.{susceptanceCoo}
+use Rattle.susceptance.specs.Susceptance.{susceptanceCoo}
 use Rattle.model.specs.Calls.{counted, listNumber, susceptanceCall}
 use Rattle.capi.specs.Exports.{outs, packed, laidOut}
 use Rattle.capi.specs.Decoding.{listRoom, ListCells}

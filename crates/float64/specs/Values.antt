@@ -3,7 +3,7 @@
 use Prim.Native.Nat.{ℕ, _^_}
 use mathlib.Core.Bool.{Bool, true, false, cond, _&&_}
 use lib.IntN.{pos}
-use lib.Ieee.{Float, nan, inf, fin, binary64, div, neg, lt, le, ofInt, ofBits}
+use lib.Ieee.{Float, nan, inf, fin, binary64, add, sub, div, lt, le, ofInt, ofBits}
 
 -- +0, at which every sum begins
 abbrev pub nought : Float
@@ -68,3 +68,10 @@ inRange low high x = le low x && le x high
 -- "`max` with 0 gives +0 for either zero"; it gives +0 for a NaN too
 unfoldable pub maxZero : Float → Float
 maxZero x = cond (lt nought x) x nought
+
+-- x more, or x less, where it is met
+abbrev pub addAt : Bool → Float → Float → Float
+addAt met x a = cond met (add binary64 a x) a
+
+abbrev pub subAt : Bool → Float → Float → Float
+subAt met x a = cond met (sub binary64 a x) a

@@ -15,7 +15,7 @@ use Rattle.network.specs.Layout.{countsOf}
 use Rattle.network.specs.Numbers.{Network, networkTests, allWithin}
 use Rattle.model.specs.Quantities.{shedCap, flowOffset, phase, networkAt, fixedAt, generatorCost, evaluate}
 use Rattle.model.specs.Rows.{rowLimits, kindOf}
-use Rattle.model.specs.Susceptance.{susceptanceCoo}
+use Rattle.susceptance.specs.Susceptance.{susceptanceCoo}
 
 -- the network's counts
 abbrev pub counted : Network → Counts

@@ -1,6 +1,4 @@
 -- The definitions that the contracts cite, from document 01. Assumes nothing.
 pub mod Rows
 pub mod Quantities
-pub mod Susceptance
-pub mod Incidence
 pub mod Calls

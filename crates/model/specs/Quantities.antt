@@ -6,7 +6,7 @@ use mathlib.Core.List.{List}
 use lib.ListN.{getD}
 use lib.Dec.{eqb}
 use lib.Ieee.{Float, nan, inf, binary64, add, sub, mul, lt}
-use Rattle.float64.specs.Values.{nought, maxZero}
+use Rattle.float64.specs.Values.{nought, maxZero, addAt, subAt}
 use Rattle.sequence.specs.Lists.{turns}
 use Rattle.network.specs.declared.Counts.{Counts}
 use Rattle.network.specs.declared.Part.the-variants.{BrFrom, BrTo, FlowTerms, GenerationTerms}
@@ -22,12 +22,6 @@ unfoldable pub flowOffset : Counts → List Float → ℕ → Float
 flowOffset c r e = mul binary64 (reading c r Sw e) (reading c r FlowOffset e)
 
 -- ---- withdrawals
-
-abbrev pub addAt : Bool → Float → Float → Float
-addAt met x a = cond met (add binary64 a x) a
-
-abbrev pub subAt : Bool → Float → Float → Float
-subAt met x a = cond met (sub binary64 a x) a
 
 -- branch e's part in bus i's withdrawal: its offset is added at its from end, then taken away at its to end
 unfoldable pub phaseTurn : Counts → List ℕ → List Float → ℕ → ℕ → Float → Float

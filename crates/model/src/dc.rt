@@ -3,7 +3,6 @@
 use crate::RowKind;
 use crate::cost::generator_cost_at;
 use crate::rows::row_limits;
-use crate::susceptance::put_susceptance;
 use crate::terms::evaluate_at;
 use crate::withdrawal::fixed_into;
 use crate::withdrawal::flow_offset_at;
@@ -18,6 +17,7 @@ use network::check::network_number_with;
 use network::layout::counts;
 use sequence::Answer;
 use sequence::room;
+use susceptance::put_susceptance;
 ghost use mathlib.Core.Path.{_≡_};
 ghost use lib.ListN.{getD};
 ghost use mathlib.Core.Bool.{_&&_};
@@ -29,7 +29,7 @@ ghost use Rattle.float64.specs.Values.{sheetLimit};
 ghost use Rattle.sequence.specs.Sheets.{laid, laysIf};
 ghost use Rattle.network.specs.Layout.{ReadingsLaid};
 ghost use Rattle.network.specs.Numbers.{lent, allWithin, Wired};
-ghost use Rattle.model.specs.Susceptance.{susceptanceCoo};
+ghost use Rattle.susceptance.specs.Susceptance.{susceptanceCoo};
 ghost use Rattle.model.specs.Calls.{elementTests, shedCapCall, flowOffsetCall, generatorCostCall, evaluateCall, phaseCall, networkCall, fixedCall, rowKindCall, susceptanceCall};
 
 // Numbers 5 and 7 of a call for one number: index i is below `count`, and the sheet has room for it.

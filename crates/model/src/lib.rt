@@ -2,7 +2,6 @@
 pub mod cost;
 pub mod dc;
 pub mod rows;
-pub mod susceptance;
 pub mod terms;
 pub mod withdrawal;
 

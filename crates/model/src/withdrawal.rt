@@ -9,11 +9,11 @@ ghost use Prim.Native.Nat.{ℕ, _<_, _≤_};
 ghost use lib.ListN.{length, getD};
 ghost use lib.Dec.{eqb};
 ghost use lib.Ieee.{nan};
-ghost use Rattle.float64.specs.Values.{nought};
+ghost use Rattle.float64.specs.Values.{nought, addAt, subAt};
 ghost use Rattle.sequence.specs.Lists.{made, front};
 ghost use Rattle.network.specs.Layout.{WiringLaid, ReadingsLaid};
 ghost use Rattle.network.specs.Numbers.{Wired};
-ghost use Rattle.model.specs.Quantities.{shedCap, flowOffset, addAt, subAt, phase, networkAt, fixedAt};
+ghost use Rattle.model.specs.Quantities.{shedCap, flowOffset, phase, networkAt, fixedAt};
 
 // The most that bus i can shed: the larger of its demand and 0, and 0 where none may be shed.
 pub fn shed_cap_at(wiring: &[u32], readings: &[f64], c: Counts, i: usize) -> f64

@@ -6,7 +6,7 @@ use denote.Ref.{now}
 use lib.ListN.{getD, set, length-set}
 use lib.Dec.{eqb}
 use lib.Ieee.{Float, nan, binary64, add, sub}
-use Rattle.model.specs.Quantities.{subAt}
+use Rattle.float64.specs.Values.{subAt}
 use Rattle.sequence.proofs.Fronts.{changed}
 use borrow.Author.Needs.{needs}
 use Rattle.model.proofs.withdrawal.phase_step.Statement.{statement}

@@ -15,7 +15,7 @@ use Rattle.sequence.specs.Answers.{Test, test, firstOf, marked, short, Filled, 
 use Rattle.sequence.proofs.Lists.{and-left, and-right, failed, held as kept, made-length}
 use Rattle.sequence.proofs.Answers.{holding, first-stands, first-passes}
 use Rattle.words.specs.Words.{doubleAt, doublesOf, joined}
-use Rattle.words.proofs.Laws.{take-front}
+use Rattle.sequence.proofs.Fronts.{take-front}
 use Rattle.network.specs.Layout.{Few}
 use Rattle.network.specs.Numbers.{Network, networkTests, networkNumber, sizesHold}
 use Rattle.model.specs.Calls.{rowKindNumber, rowKindCall, counted, elementNumber, elementCall, sheetNumber, busCall}

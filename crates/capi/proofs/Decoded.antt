@@ -10,7 +10,7 @@ use borrow.Author.Tests.{ne-eqb, eq-eqb, le-leb, lt-leb}
 use Rattle.sequence.specs.Lists.{front, made}
 use Rattle.sequence.proofs.Lists.{and-left, and-right, made-length}
 use Rattle.words.specs.Words.{wordAt, doubleAt, wordsOf, doublesOf}
-use Rattle.words.proofs.Laws.{take-made}
+use Rattle.sequence.proofs.Fronts.{take-made}
 use Rattle.network.specs.Numbers.{Network, sizesHold}
 use Rattle.network.proofs.Tests.{sized-few, sized-wiring, sized-readings, sized-indexes, sized-coefficients}
 use Rattle.capi.specs.declared.Lengths.{Lengths}

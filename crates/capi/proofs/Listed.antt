@@ -14,14 +14,14 @@ use Rattle.sequence.specs.Answers.{firstOf, marked}
 use Rattle.sequence.specs.Sheets.{Triplet, rowsOf, colsOf, valuesOf, Laid, laid, lays, room, shortList}
 use Rattle.sequence.proofs.Lists.{made-length}
 use Rattle.words.specs.Words.{wordsOf, doublesOf, wordBytes, doubleBytes, joined}
-use Rattle.words.proofs.Laws.{take-front}
+use Rattle.sequence.proofs.Fronts.{take-front}
 use Rattle.network.specs.Numbers.{Network, networkTests, sizesHold}
 use Rattle.susceptance.specs.Susceptance.{susceptanceCoo}
 use Rattle.model.specs.Calls.{counted, listNumber, susceptanceCall}
 use Rattle.capi.specs.Exports.{outs, packed, laidOut}
 use Rattle.capi.specs.Decoding.{listRoom, ListCells}
 use Rattle.capi.proofs.Answered.{last-passed, last-same, short-same, few-counts, size-fails}
-use Rattle.capi.proofs.Cells.{list-length}
+use Rattle.susceptance.proofs.Bound.{list-length}
 
 -- ---- a list's bytes do not depend on the sheets that it is cut from
 

@@ -26,7 +26,7 @@ ghost use lib.ListN.{length};
 ghost use Prim.Native.Nat.{ℕ, _<_, _≤_};
 ghost use Rattle.sequence.specs.Answers.{firstOf, filled};
 ghost use Rattle.float64.specs.Values.{sheetLimit};
-ghost use Rattle.sequence.specs.Sheets.{laid, laysIf};
+ghost use Rattle.sequence.specs.Sheets.{laid, laysIf, room};
 ghost use Rattle.network.specs.Layout.{ReadingsLaid};
 ghost use Rattle.network.specs.Numbers.{lent, allWithin, Wired};
 ghost use Rattle.susceptance.specs.Susceptance.{susceptanceCoo};
@@ -318,7 +318,37 @@ pub fn row_kind(
     }
 }
 
-// The susceptance list where the sheets hold it: counted first, then written.
+// The susceptance list where the sheets, of which the shortest holds `cap`, hold it: counted first,
+// then written.
+fn lay_counted(
+    wiring: &[u32],
+    readings: &[f64],
+    c: Counts,
+    rows: &mut [u32],
+    cols: &mut [u32],
+    values: &mut [f64],
+    cap: usize,
+) -> Answer
+    requires { ⌜ Wired c (now wiring) ⌝ }
+    requires { ⌜ ReadingsLaid c (now readings) ⌝ }
+    requires { ⌜ cap ≡ room (now rows) (now cols) (now values) ⌝ }
+    ensures { λ a. ⌜ laid (a .number) (a .count) (now (rows .exit)) (now (cols .exit)) (now (values .exit)) ≡ laysIf (susceptanceCoo c (now (wiring .entry)) (now (readings .entry))) (now (rows .entry)) (now (cols .entry)) (now (values .entry)) ⌝ }
+{
+    let count = put_susceptance(wiring, readings, c, rows, cols, values, 0);
+    if cap < count {
+        return Answer {
+            number: 7,
+            count: 0,
+        };
+    }
+    let done = put_susceptance(wiring, readings, c, rows, cols, values, count);
+    Answer {
+        number: 0,
+        count: done,
+    }
+}
+
+// The same in one pass where the sheets hold four triplets for each branch, which is the most.
 fn lay_susceptance(
     wiring: &[u32],
     readings: &[f64],
@@ -332,18 +362,12 @@ fn lay_susceptance(
     ensures { λ a. ⌜ laid (a .number) (a .count) (now (rows .exit)) (now (cols .exit)) (now (values .exit)) ≡ laysIf (susceptanceCoo c (now (wiring .entry)) (now (readings .entry))) (now (rows .entry)) (now (cols .entry)) (now (values .entry)) ⌝ }
 {
     let cap = room(rows, cols, values);
-    let count = put_susceptance(wiring, readings, c, rows, cols, values, 0);
-    if cap < count {
-        return Answer {
-            number: 7,
-            count: 0,
-        };
+    if 4 * c.branches <= cap {
+        let most = 4 * c.branches;
+        let count = put_susceptance(wiring, readings, c, rows, cols, values, most);
+        return Answer { number: 0, count };
     }
-    let done = put_susceptance(wiring, readings, c, rows, cols, values, count);
-    Answer {
-        number: 0,
-        count: done,
-    }
+    lay_counted(wiring, readings, c, rows, cols, values, cap)
 }
 
 // The susceptance matrix as triplets, by row, then column.

@@ -412,10 +412,10 @@ pub fn network_number_with(
     if !readings_hold(wiring, readings, term_index, term_coefficient, c) {
         return 3;
     }
-    if !values {
-        return 3;
+    if values {
+        return 0;
     }
-    0
+    3
 }
 
 // The number of a network: 0, or the lowest of 1 to 3 whose condition holds.

@@ -1,16 +1,16 @@
 -- A sheet whose front is overwritten word by word: what it holds, one word more, one front over another.
--- Main results: `front-at`, `front-later`, `none`, `more`, `over`, `unmet`, `changed`. Assumes nothing.
+-- Main results: `front-at`, `front-later`, `take-front`, `front-more`, `front-made`; `none`, `more`, `over`, `unmet`, `changed`. Assumes nothing.
 use mathlib.Core.Path.{_≡_, refl, sym, _∙_}
 use mathlib.Core.Bool.{cond}
-use mathlib.Core.List.{List, append-assoc}
-use Prim.Native.Nat.{ℕ, suc, _+_, _-_, _≤_, _<_}
+use mathlib.Core.List.{List, [], _∷_, _++_, append-assoc}
+use Prim.Native.Nat.{ℕ, _+_, _-_, _≤_, _<_}
 use native.Mathlib.Numerals.{add-one}
 use native.Mathlib.Omega.{arith}
 use borrow.Author.Tests.{eq-eqb, ne-eqb}
 use lib.Dec.{eqb}
-use lib.ListN.{length, getD, set, drop, length-set, length-append, List·getD-append}
+use lib.ListN.{length, getD, set, take, drop, length-set, length-append, length-drop, List·getD-append}
 use native.Mathlib.Decide.{decLt}
-use lib.Seq.{drop-cons, drop-at, set-at, getD-append-add, getD-drop, ext-getD}
+use lib.Seq.{sets, sets-eq, take-at, drop-at, drop-drop, drop-append-add, getD-append-add, getD-drop, ext-getD}
 use Rattle.sequence.specs.Lists.{made, front}
 use Rattle.sequence.proofs.Lists.{made-length, made-at, front-length, stored-at}
 
@@ -26,6 +26,26 @@ module _ {A : Type 0} where
       let z : n + (i - n) ≡ i = omega arith in
       let e = rw made-length at (getD-append-add (made f n) (drop n old) (i - n) d) in
       rw (made-length f n) (rw z at (e ∙ getD-drop n old (i - n) d))
+
+  -- what stands in front of a sheet
+  pub take-front : (new old : List A) (n : ℕ) → length new ≡ n → take n (front new old) ≡ new
+  unfolding front
+  take-front new old n e = take-at new _ n e
+
+  pub take-made : (f : ℕ → A) (n : ℕ) (old : List A) → take n (front (made f n) old) ≡ made f n
+  take-made f n old = take-front (made f n) old n (made-length f n)
+
+  -- more is stored behind a front
+  pub front-more : (new more old : List A) (n : ℕ) → length new ≡ n → n + length more ≤ length old → sets (front new old) n more ≡ front (new ++ more) old
+  unfolding front
+  front-more new more old n e h =
+      let l : length new + length more ≤ length (front new old) = simp (length-append, length-drop) (omega arith) in
+      rw (← e, sets-eq more (front new old) (length new) l, take-front new old, drop-append-add, drop-drop, length-append, append-assoc)
+
+  -- one value more: v is stored where n values are made
+  pub made-turn : (f : ℕ → A) (n : ℕ) (v : A) (old xs : List A) → v ≡ f n → n < length old → xs ≡ front (made f n) old → set xs n v ≡ front (made f (n + 1)) old
+  unfolding made
+  made-turn f n v old xs h l e = rw (e, h, add-one) (front-more (made f n) (f n ∷ []) old n (made-length f n) (omega arith))
 
   -- a sheet whose first n words are f's values, and whose later words are as they were, is a front
   pub front-made : (f : ℕ → A) (n : ℕ) (d : A) (old new : List A) → length new ≡ length old → n ≤ length old
@@ -50,12 +70,7 @@ module _ {A : Type 0} where
 
   -- one word more
   pub more : {f : ℕ → A} {i : ℕ} {old new : List A} (v : A) → i < length old → Fronted f i old new → v ≡ f i → Fronted f (i + 1) old (set new i v)
-  unfolding front made
-  more {f} {i} {old} v h p e =
-      record {
-        is = rw (p .is, made-length, drop-cons old i v h, set-at (made f i) (getD old i v) (drop (suc i) old) v i (made-length f i), e, add-one, append-assoc, length-append, made-length f i, add-one);
-        kept = simp length-set (p .kept);
-      }
+  more {f} {i} {old} {new} v h p e = record { is = made-turn f i v old new e h (p .is); kept = simp length-set (p .kept) }
 
   -- a front over a front
   pub over : {f g : ℕ → A} {n : ℕ} {old mid new : List A} → Fronted f n old mid → Fronted g n mid new → Fronted g n old new

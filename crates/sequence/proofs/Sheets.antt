@@ -1,5 +1,5 @@
 -- The laws of `Puts`, which every loop that puts triplets cites, and what a counting and a writing pass leave.
--- Main results: `then`, `more`, `once`, `lays-short`, `lays-twice`. Assumes nothing.
+-- Main results: `then`, `more`, `lays-once`, `lays-short`, `lays-twice`. Assumes nothing.
 use mathlib.Core.Path.{_≡_, refl, sym, ap, _∙_}
 use Prim.Native.Nat.{ℕ, zero, suc, _+_, _≤_, _<_, zero-le, min}
 use native.Mathlib.Numerals.{add-one}
@@ -113,6 +113,14 @@ pub twice : {number : ℕ} {ts : List Triplet} {R C R′ C′ R″ C″ : List �
     → number ≡ 0 → Puts 0 ts (sheets R C X 0) (sheets R′ C′ X′ k) → Puts k ts (sheets R′ C′ X′ 0) (sheets R″ C″ X″ d)
     → k ≤ room R C X → laid 0 d R″ C″ X″ ≡ lays number ts R C X
 twice e p q h = once e (rw (counted p .1) at q) (le-of-eq (sym (counted p .0))) h
+
+-- ---- one writing pass, below a limit that the list keeps under
+
+pub lays-once : {ts : List Triplet} {R C R″ C″ : List ℕ} {X X″ : List Float} {l k d : ℕ}
+    → Puts l ts (sheets R C X 0) (sheets R″ C″ X″ d) → k ≡ room R C X → l ≤ k → length ts ≤ l → laid 0 d R″ C″ X″ ≡ laysIf ts R C X
+lays-once {ts} {R} {C} {X = X} p e h g =
+    let s : length ts ≤ room R C X = omega arith in
+    once (rw (le-ltb (room R C X) (length ts) s)) p g (rw e at h)
 
 -- ---- a counting pass, then a writing pass where the sheets hold what was counted
 

@@ -1,36 +1,15 @@
--- The laws of a sheet that is filled from the front, and of bytes that are stored there. Assumes nothing.
+-- The laws of bytes that are stored from the front of a sheet on. Assumes nothing.
 use mathlib.Core.Path.{_≡_, refl, _∙_, ap}
 use mathlib.Core.List.{List, [], _∷_, _++_, append-nil, append-assoc}
 use Prim.Native.Nat.{ℕ, zero, suc, _+_, _-_, _*_, _/_, _%_, _≤_, _<_}
 use native.Mathlib.Numerals.{add-one}
 use native.Mathlib.Omega.{arith}
 use lib.Ieee.{Float, binary64, toBits}
-use lib.ListN.{length, getD, set, take, length-append, length-drop}
-use lib.Seq.{sets, sets-eq, take-at, drop-append-add, drop-drop, take-suc, length-take-le}
-use Rattle.sequence.specs.Lists.{made, front}
-use Rattle.sequence.proofs.Lists.{made-length}
+use lib.ListN.{length, getD, set, take, length-append}
+use lib.Seq.{sets, take-suc, length-take-le}
+use Rattle.sequence.specs.Lists.{front}
+use Rattle.sequence.proofs.Fronts.{front-more}
 use Rattle.words.specs.Words.{bytesOf, joined, wordBytes, doubleBytes}
-
-module _ {A : Type 0} where
-  -- what stands in front of a sheet
-  pub take-front : (new old : List A) (n : ℕ) → length new ≡ n → take n (front new old) ≡ new
-  unfolding front
-  take-front new old n e = take-at new _ n e
-
-  pub take-made : (f : ℕ → A) (n : ℕ) (old : List A) → take n (front (made f n) old) ≡ made f n
-  take-made f n old = take-front (made f n) old n (made-length f n)
-
-  -- more is stored behind a front
-  pub front-more : (new more old : List A) (n : ℕ) → length new ≡ n → n + length more ≤ length old → sets (front new old) n more ≡ front (new ++ more) old
-  unfolding front
-  front-more new more old n e h =
-      let l : length new + length more ≤ length (front new old) = simp (length-append, length-drop) (omega arith) in
-      rw (← e, sets-eq more (front new old) (length new) l, take-front new old, drop-append-add, drop-drop, length-append, append-assoc)
-
-  -- one value more: v is stored where n values are made
-  pub made-turn : (f : ℕ → A) (n : ℕ) (v : A) (old xs : List A) → v ≡ f n → n < length old → xs ≡ front (made f n) old → set xs n v ≡ front (made f (n + 1)) old
-  unfolding made
-  made-turn f n v old xs h l e = rw (e, h, add-one) (front-more (made f n) (f n ∷ []) old n (made-length f n) (omega arith))
 
 -- ---- the bytes of each element
 

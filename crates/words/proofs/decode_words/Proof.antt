@@ -6,7 +6,7 @@ use lib.ListN.{length, length-set}
 use borrow.Author.Needs.{needs}
 use Rattle.sequence.specs.Lists.{made, front}
 use Rattle.words.specs.Words.{wordAt}
-use Rattle.words.proofs.Laws.{made-turn}
+use Rattle.sequence.proofs.Fronts.{made-turn}
 use Rattle.words.proofs.decode_words.Statement.{statement}
 use Rattle.words.proofs.decode_words.Tie as tie
 

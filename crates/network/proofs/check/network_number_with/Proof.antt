@@ -38,13 +38,13 @@ returns-4 c =
 returns-5 : tie.Need-returns-5
 returns-5 c =
     let w = c .before .before .before .before in
-    (number-own-reading _ _ _ (w .before .counts .ensures) (held (c .before .before .before .before .before .before .before .before .sizes-hold .ensures) (c .before .before .before .before .before .before .before .if1 .left)) (not-false _ (c .before .before .before .before .before .before .if2 .left)) (held (w .wiring-holds .ensures) (c .before .before .before .if3 .left)) (held (c .before .before .readings-hold .ensures) (c .before .if4 .left)) (not-true _ (c .if5 .taken)), λ e. absurd (omega arith))
+    let r = number-none _ _ _ (w .before .counts .ensures) (held (c .before .before .before .before .before .before .before .before .sizes-hold .ensures) (c .before .before .before .before .before .before .before .if1 .left)) (not-false _ (c .before .before .before .before .before .before .if2 .left)) (held (w .wiring-holds .ensures) (c .before .before .before .if3 .left)) (held (c .before .before .readings-hold .ensures) (c .before .if4 .left)) (c .if5 .taken) in
+    (r .0, λ _. r .1)
 
 returns-6 : tie.Need-returns-6
 returns-6 c =
     let w = c .before .before .before .before in
-    let r = number-none _ _ _ (w .before .counts .ensures) (held (c .before .before .before .before .before .before .before .before .sizes-hold .ensures) (c .before .before .before .before .before .before .before .if1 .left)) (not-false _ (c .before .before .before .before .before .before .if2 .left)) (held (w .wiring-holds .ensures) (c .before .before .before .if3 .left)) (held (c .before .before .readings-hold .ensures) (c .before .if4 .left)) (not-false _ (c .if5 .left)) in
-    (r .0, λ _. r .1)
+    (number-own-reading _ _ _ (w .before .counts .ensures) (held (c .before .before .before .before .before .before .before .before .sizes-hold .ensures) (c .before .before .before .before .before .before .before .if1 .left)) (not-false _ (c .before .before .before .before .before .before .if2 .left)) (held (w .wiring-holds .ensures) (c .before .before .before .if3 .left)) (held (c .before .before .readings-hold .ensures) (c .before .if4 .left)) (c .if5 .left), λ e. absurd (omega arith))
 
 pub network-number-with-spec : {M : Type 1} → statement M
 network-number-with-spec =

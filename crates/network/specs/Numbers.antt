@@ -58,6 +58,7 @@ limited = BrFrom ∷ BrTo ∷ GenBus ∷ References ∷ GeneratorFlags ∷ Therm
 abbrev pub limitedAt : ℕ → Part
 limitedAt k = getD limited k BrFrom
 
+-- what a word of a limited part is below; the other parts, whose 0 here nothing reads, are tested by their sums
 abbrev pub partLimit : Counts → Part → ℕ
 partLimit c BrFrom = c .buses
 partLimit c BrTo = c .buses
@@ -94,9 +95,6 @@ wiringHolds c w ti =
 -- base_mva, the first field, from 0.001 to 10^6; every other reading finite and of magnitude at most 10^12
 unfoldable pub inRank : ℕ → Float → Bool
 inRank k x = cond (eqb k (rank BaseMva)) (inRange baseLow baseHigh x) (within rawLimit x)
-
-abbrev pub inField : Field → Float → Bool
-inField f x = inRank (rank f) x
 
 abbrev pub fieldAt : ℕ → Field
 fieldAt k = getD fields k BaseMva

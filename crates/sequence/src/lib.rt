@@ -10,19 +10,6 @@ pub struct Answer {
     pub count: usize,
 }
 
-// A refusal: count 0.
-pub fn refused(number: u32) -> Answer
-    ensures { λ a. ⌜ (a .number ≡ number) × (a .count ≡ 0) ⌝ }
-{
-    Answer { number, count: 0 }
-}
-
-pub fn done(count: usize) -> Answer
-    ensures { λ a. ⌜ (a .number ≡ 0) × (a .count ≡ count) ⌝ }
-{
-    Answer { number: 0, count }
-}
-
 // A triplet by value, and whether it is meant at all.
 pub struct Item {
     pub keep: bool,

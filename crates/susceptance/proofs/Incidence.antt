@@ -10,7 +10,7 @@ use lib.Seq.{getD-set-other}
 use lib.Dec.{eqb}
 use lib.Ieee.{Float, nan, eq}
 use borrow.Author.Tests.{eq-eqb, ne-eqb}
-use Rattle.float64.specs.Values.{nought}
+use Rattle.float64.specs.Values.{nought, addAt, subAt}
 use Rattle.sequence.specs.Lists.{each, turns, some, when}
 use Rattle.sequence.specs.Links.{First, Links}
 use Rattle.sequence.specs.Sheets.{emit, Sheets, Puts}
@@ -21,7 +21,6 @@ use Rattle.network.specs.declared.Counts.{Counts}
 use Rattle.network.specs.declared.Part.the-variants.{BrFrom, BrTo}
 use Rattle.network.specs.Layout.{wire}
 use Rattle.network.specs.Numbers.{Wired}
-use Rattle.float64.specs.Values.{addAt, subAt}
 use Rattle.susceptance.specs.Susceptance.{weight, isCell, cellTurn, susceptance, touches, touched, susceptanceCell, susceptanceRow}
 use Rattle.susceptance.specs.Incidence.{endAt, takes, endTurn, walkTurn, cellSum, cellMark, sumTurn, markTurn, markAt, Covers, marked, Stepped, EndStepped, RowBlank, RowAt, RowHeld, cellAt, spanAt}
 

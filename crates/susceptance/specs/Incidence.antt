@@ -7,14 +7,13 @@ use mathlib.Core.List.{List}
 use lib.ListN.{length, getD, set}
 use lib.Dec.{eqb}
 use lib.Ieee.{Float, nan}
-use Rattle.float64.specs.Values.{nought}
+use Rattle.float64.specs.Values.{nought, addAt, subAt}
 use Rattle.sequence.specs.Lists.{each, turns}
 use Rattle.sequence.specs.Links.{Links}
 use Rattle.sequence.specs.Sheets.{Triplet, item, emit}
 use Rattle.network.specs.declared.Counts.{Counts}
 use Rattle.network.specs.declared.Part.the-variants.{BrFrom, BrTo}
 use Rattle.network.specs.Layout.{wire}
-use Rattle.float64.specs.Values.{addAt, subAt}
 use Rattle.susceptance.specs.Susceptance.{weight, isCell, cellTurn, susceptance, touches, touched}
 
 -- ---- the ends of the branches: from at 2e, to at 2e + 1

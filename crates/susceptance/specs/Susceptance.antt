@@ -5,14 +5,13 @@ use mathlib.Core.Bool.{Bool, true, false, cond, not, _&&_, _||_}
 use mathlib.Core.List.{List, [], _∷_}
 use lib.Dec.{eqb}
 use lib.Ieee.{Float, binary64, add, sub, mul, neg, eq}
-use Rattle.float64.specs.Values.{nought}
+use Rattle.float64.specs.Values.{nought, addAt, subAt}
 use Rattle.sequence.specs.Lists.{each, when, turns, some}
 use Rattle.sequence.specs.Sheets.{Triplet, triplet}
 use Rattle.network.specs.declared.Counts.{Counts}
 use Rattle.network.specs.declared.Part.the-variants.{BrFrom, BrTo}
 use Rattle.network.specs.declared.Field.the-variants.{Susceptance, Sw}
 use Rattle.network.specs.Layout.{wire, reading}
-use Rattle.float64.specs.Values.{addAt, subAt}
 
 -- -b[e] * sw[e]
 unfoldable pub weight : Counts → List Float → ℕ → Float

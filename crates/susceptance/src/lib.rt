@@ -16,13 +16,12 @@ ghost use Prim.Native.Nat.{ℕ, _+_, _*_, _<_, _≤_};
 ghost use lib.ListN.{length, getD};
 ghost use lib.Dec.{eqb};
 ghost use lib.Ieee.{nan};
-ghost use Rattle.float64.specs.Values.{nought};
+ghost use Rattle.float64.specs.Values.{nought, addAt, subAt};
 ghost use Rattle.sequence.specs.Lists.{each};
 ghost use Rattle.sequence.specs.Links.{Links};
 ghost use Rattle.sequence.specs.Sheets.{item, held, Puts, Room};
 ghost use Rattle.network.specs.Layout.{ReadingsLaid};
 ghost use Rattle.network.specs.Numbers.{Wired};
-ghost use Rattle.float64.specs.Values.{addAt, subAt};
 ghost use Rattle.susceptance.specs.Susceptance.{weight, cellTurn, susceptanceRow, susceptanceCoo};
 ghost use Rattle.susceptance.specs.Incidence.{endAt, Chains, takes, cellSum, cellMark, markAt, Covers, marked, RowRoom, Stepped, EndStepped, RowBlank, RowHeld, cellAt, spanAt};
 

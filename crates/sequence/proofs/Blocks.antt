@@ -1,9 +1,10 @@
--- Blocks of a flat list lie apart: main results `apart`, `inside`, `one-block`. Assumes nothing.
+-- Blocks of a flat list lie apart: main results `apart`, `inside`, `one-block`, `in-block`. Assumes nothing.
 use mathlib.Core.Path.{_≡_, refl}
 use mathlib.Core.List.{List, [], _∷_}
-use Prim.Native.Nat.{ℕ, zero, suc, _+_, _≤_, _<_}
+use Prim.Native.Nat.{ℕ, zero, suc, _+_, _-_, _≤_, _<_}
 use native.Mathlib.Omega.{arith}
-use lib.ListN.{take, getD}
+use native.Mathlib.Decide.{decLt}
+use lib.ListN.{length, take, getD}
 use Rattle.sequence.specs.Layout.{total, start}
 
 -- a block ends before a later one begins
@@ -26,3 +27,23 @@ inside (x ∷ xs) (suc r) = omega (arith, inside xs r)
 -- two places that are one place are of one block
 pub one-block : (sizes : List ℕ) (r s i j : ℕ) → i < getD sizes r 0 → j < getD sizes s 0 → r < s → start sizes r + i ≡ start sizes s + j → ⊥
 one-block sizes r s i j hi hj h e = omega (arith, apart sizes r s h)
+
+-- a place of the whole, by block: of rank r, at j
+pub record Placed (sizes : List ℕ) (i : ℕ) : Type 0 where
+  pub rank : ℕ
+  pub at : ℕ
+  pub ranked : rank < length sizes
+  pub below : at < getD sizes rank 0
+  pub place : i ≡ start sizes rank + at
+
+-- every place of the whole lies in a block
+pub in-block : (sizes : List ℕ) (i : ℕ) → i < total sizes → Placed sizes i
+in-block [] i h = absurd (omega arith)
+in-block (x ∷ xs) i h = go (decLt i x) (in-block xs (i - x))
+  where
+    later : x ≤ i → Placed xs (i - x) → Placed (x ∷ xs) i
+    later l p = record { rank = suc (p .rank); at = p .at; ranked = omega (arith, p .ranked); below = p .below; place = omega (arith, p .place) }
+
+    go : Dec (i < x) → (i - x < total xs → Placed xs (i - x)) → Placed (x ∷ xs) i
+    go (yes l) f = record { rank = 0; at = i; ranked = omega arith; below = l; place = omega arith }
+    go (no l) f = later (omega arith) (f (omega arith))

@@ -1,0 +1,15 @@
+-- `solution::more` meets its contract, by its one test. Assumes nothing.
+use native.Mathlib.Omega.{arith}
+use borrow.Author.Needs.{needs}
+use borrow.Author.Tests.{eq-eqb, ne-eqb}
+use Rattle.solution.proofs.more.Statement.{statement}
+use Rattle.solution.proofs.more.Tie as tie
+
+returns : tie.Need-returns
+returns c = rw (eq-eqb _ _ (c .if1 .taken)) (omega arith)
+
+returns-2 : tie.Need-returns-2
+returns-2 c = rw (ne-eqb _ _ (c .if1 .left))
+
+pub more-spec : {M : Type 1} → statement M
+more-spec = tie.close (tie.spec returns (λ c. search needs) returns-2)

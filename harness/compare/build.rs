@@ -1,7 +1,10 @@
-//! Finds the static library of the exports and links it.
+//! Finds the static libraries of the exports and links them.
 
 use std::env;
 use std::path::PathBuf;
+
+/// `libNAME.a` each; exports of the model, exports of the matrix.
+const LIBRARIES: [&str; 2] = ["capi", "capi_sens"];
 
 fn main() {
     println!("cargo:rerun-if-changed=build.rs");
@@ -16,16 +19,18 @@ fn main() {
             PathBuf::from(here).join("../../target/staticlib")
         }
     };
-    let library = dir.join("libcapi.a");
-    println!("cargo:rerun-if-changed={}", library.display());
-    if !library.exists() {
-        // Without this line the linker's list of missing exports would be all there is.
-        println!(
-            "cargo:warning={} is not there: build the static library first, or set CAPI_LIB_DIR",
-            library.display()
-        );
-        return;
-    }
     println!("cargo:rustc-link-search=native={}", dir.display());
-    println!("cargo:rustc-link-lib=static=capi");
+    for name in LIBRARIES {
+        let library = dir.join(format!("lib{}.a", name));
+        println!("cargo:rerun-if-changed={}", library.display());
+        if library.exists() {
+            println!("cargo:rustc-link-lib=static={}", name);
+        } else {
+            // Without this line the linker's list of missing exports would be all there is.
+            println!(
+                "cargo:warning={} is not there: build the static libraries first, or set CAPI_LIB_DIR",
+                library.display()
+            );
+        }
+    }
 }

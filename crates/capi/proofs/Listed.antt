@@ -1,113 +1,39 @@
--- The laws of the susceptance list on bytes: it goes by way of cells, or is refused at once. Assumes nothing.
-use mathlib.Core.Path.{_≡_, refl, ap, _∙_}
-use mathlib.Core.Bool.{Bool, true, false, cond, _&&_}
-use mathlib.Core.List.{List}
-use Prim.Native.Nat.{ℕ, _≤_, min}
+-- The susceptance list on bytes: at most four triplets for each of 512 branches. Assumes nothing.
+use mathlib.Core.Path.{_≡_}
+use mathlib.Core.Bool.{Bool, true, false, _&&_}
+use mathlib.Core.List.{List, [], _∷_}
+use Prim.Native.Nat.{ℕ, _≤_}
 use native.Mathlib.Omega.{arith}
-use lib.Dec.{eqb}
-use lib.ListN.{length, take, length-map}
-use lib.Seq.{length-take-le}
+use lib.ListN.{length}
 use lib.Ieee.{Float}
-use borrow.Author.Tests.{ltb-false, eqb-true}
-use Rattle.sequence.specs.Lists.{front}
-use Rattle.sequence.specs.Answers.{firstOf, marked}
-use Rattle.sequence.specs.Sheets.{Triplet, rowsOf, colsOf, valuesOf, Laid, laid, lays, room, shortList}
-use Rattle.sequence.proofs.Lists.{made-length}
-use Rattle.words.specs.Words.{wordsOf, doublesOf, wordBytes, doubleBytes, joined}
-use Rattle.sequence.proofs.Fronts.{take-front}
+use Rattle.sequence.specs.Answers.{test, firstOf, marked}
+use Rattle.sequence.specs.Sheets.{Triplet, laid, shortList}
+use Rattle.words.specs.Words.{wordsOf, doublesOf}
 use Rattle.network.specs.Numbers.{Network, networkTests, sizesHold}
 use Rattle.susceptance.specs.Susceptance.{susceptanceCoo}
-use Rattle.model.specs.Calls.{counted, listNumber, susceptanceCall}
-use Rattle.capi.specs.Exports.{outs, packed, laidOut}
-use Rattle.capi.specs.Decoding.{listRoom, ListCells}
-use Rattle.capi.proofs.Answered.{last-passed, last-same, short-same, few-counts, size-fails}
 use Rattle.susceptance.proofs.Bound.{list-length}
-
--- ---- a list's bytes do not depend on the sheets that it is cut from
-
-module _ (ts : List Triplet) (r c r′ c′ : List ℕ) (v v′ : List Float) where
-  relay-by : (b : Bool) (n : ℕ) (R C X : List ℕ)
-      → laidOut true (cond b (laid 0 (length ts) (front (rowsOf ts) r) (front (colsOf ts) c) (front (valuesOf ts) v)) (laid n 0 r c v)) R C X
-      ≡ laidOut true (cond b (laid 0 (length ts) (front (rowsOf ts) r′) (front (colsOf ts) c′) (front (valuesOf ts) v′)) (laid n 0 r′ c′ v′)) R C X
-  unfolding laidOut
-  relay-by true n R C X =
-      rw (take-front (rowsOf ts) r (length ts) (length-map ts _), take-front (rowsOf ts) r′ (length ts) (length-map ts _), take-front (colsOf ts) c (length ts) (length-map ts _), take-front (colsOf ts) c′ (length ts) (length-map ts _), take-front (valuesOf ts) v (length ts) (length-map ts _), take-front (valuesOf ts) v′ (length ts) (length-map ts _))
-  relay-by false n R C X = refl
-
-  relay : (n : ℕ) (R C X : List ℕ) → laidOut true (lays n ts r c v) R C X ≡ laidOut true (lays n ts r′ c′ v′) R C X
-  unfolding lays
-  relay n R C X = relay-by (eqb n 0) n R C X
-
-count-by : (b : Bool) (n : ℕ) (ts : List Triplet) (r c : List ℕ) (v : List Float) (most : ℕ) → (b ≡ true → length ts ≤ most)
-    → (cond b (laid 0 (length ts) (front (rowsOf ts) r) (front (colsOf ts) c) (front (valuesOf ts) v)) (laid n 0 r c v)) .count ≤ most
-count-by true n ts r c v most h = h refl
-count-by false n ts r c v most h = omega arith
-
-count-of : (n : ℕ) (ts : List Triplet) (r c : List ℕ) (v : List Float) (most : ℕ) → (n ≡ 0 → length ts ≤ most) → (lays n ts r c v) .count ≤ most
-unfolding lays
-count-of n ts r c v most h = count-by (eqb n 0) n ts r c v most (λ e. h (eqb-true n 0 e))
-
--- ---- the call
-
-min-left : {k : ℕ} (a b : ℕ) → k ≤ min a b → k ≤ a
-min-left a b h = omega arith
-
-min-right : {k : ℕ} (a b : ℕ) → k ≤ min a b → k ≤ b
-min-right a b h = omega arith
-
-min-both : {k : ℕ} (a b : ℕ) → k ≤ a → k ≤ b → k ≤ min a b
-min-both a b h g = omega arith
+use Rattle.model.specs.Calls.{counted, listNumber, susceptanceCall}
+use Rattle.decoding.specs.Exports.{outs, laidOut}
+use Rattle.decoding.specs.Decoding.{listRoom, ListCells}
+use Rattle.decoding.proofs.Answered.{few-counts}
+use Rattle.decoding.proofs.Listed.{list-answer, list-count, list-one}
 
 module _ (N : Network) where
   abbrev list : List Triplet
   list = susceptanceCoo (counted N) (N .wiring) (N .readings)
 
   small : firstOf (networkTests N true true) ≡ 0 → length list ≤ 2048
-  small z = omega (arith, list-length (counted N) (N .wiring) (N .readings), few-counts N z .branches)
+  small z = omega (arith, list-length (counted N) (N .wiring) (N .readings), few-counts N true true z .branches)
 
-  module _ (R C X : List ℕ) (r c : List ℕ) (v : List Float) (cells : ListCells (length R) (length C) (length X) (length r) (length c) (length v)) where
-    rooms : firstOf (networkTests N true true) ≡ 0 → shortList list r c v ≡ shortList list (wordsOf R) (wordsOf C) (doublesOf X)
-    rooms z =
-        short-same (room r c v) (room (wordsOf R) (wordsOf C) (doublesOf X)) (length list)
-        (λ l. simp made-length (min-right 2048 _ (rw (cells .in-rows) at (min-left (length r) _ l))))
-        (λ l. let h : length list ≤ listRoom (length R) (length C) (length X) = min-both 2048 _ (small z) (simp made-length at l) in
-        rw (cells .in-rows, cells .in-cols, cells .in-values) (min-both _ _ h (min-both _ _ h h)))
-
-    same-number : listNumber N list r c v ≡ listNumber N list (wordsOf R) (wordsOf C) (doublesOf X)
+  module _ (R C X : List ℕ) (r c : List ℕ) (v : List Float) (cells : ListCells 2048 (length R) (length C) (length X) (length r) (length c) (length v)) {n k : ℕ} {r′ c′ : List ℕ} {v′ : List Float} (e : laid n k r′ c′ v′ ≡ susceptanceCall N r c v) where
+    pub susceptance-answer : laidOut true (laid n k r′ c′ v′) R C X ≡ laidOut true (susceptanceCall N (wordsOf R) (wordsOf C) (doublesOf X)) R C X
     unfolding listNumber marked
-    same-number = last-same (networkTests N true true) tt _ _ rooms
+    susceptance-answer = list-answer (networkTests N true true) tt list 2048 small R C X r c v cells e
 
-    passed : listNumber N list r c v ≡ 0 → length list ≤ room r c v
+    pub susceptance-count : k ≤ listRoom 2048 (length R) (length C) (length X)
     unfolding listNumber marked
-    passed z = ltb-false _ _ (last-passed (networkTests N true true) tt (shortList list r c v) z)
+    susceptance-count = list-count (networkTests N true true) tt list 2048 small R C X r c v cells e
 
-    module _ {n k : ℕ} {r′ c′ : List ℕ} {v′ : List Float} (e : laid n k r′ c′ v′ ≡ susceptanceCall N r c v) where
-      pub list-answer : laidOut true (laid n k r′ c′ v′) R C X ≡ laidOut true (susceptanceCall N (wordsOf R) (wordsOf C) (doublesOf X)) R C X
-      list-answer =
-          ap (λ (a : Laid). laidOut true a R C X) e
-          ∙ relay list r c (wordsOf R) (wordsOf C) v (doublesOf X) (listNumber N list r c v) R C X
-          ∙ ap (λ (j : ℕ). laidOut true (lays j list (wordsOf R) (wordsOf C) (doublesOf X)) R C X) same-number
-
-      pub list-count : k ≤ listRoom (length R) (length C) (length X)
-      list-count =
-          rw (ap (λ (a : Laid). a .count) e)
-          (count-of (listNumber N list r c v) list r c v _ (λ z. omega (arith, passed z, cells .in-rows, cells .in-cols, cells .in-values)))
-
-pub written : (n k : ℕ) (r c : List ℕ) (v : List Float) (R C X : List ℕ) {a : ℕ} {R′ C′ X′ : List ℕ} → a ≡ packed n k → R′ ≡ front (wordBytes (take k r)) R → C′ ≡ front (wordBytes (take k c)) C → X′ ≡ front (doubleBytes (take k v)) X
-    → outs a R′ C′ X′ ≡ laidOut true (laid n k r c v) R C X
-unfolding laidOut
-written n k r c v R C X e p q s = rw (e, p, q, s)
-
-one-by : (ok : Bool) (number : ℕ) (ts : List Triplet) (r c : List ℕ) (v : List Float) (R C X : List ℕ) → (ok ≡ true → number ≡ 1) → outs 1 R C X ≡ laidOut ok (lays number ts r c v) R C X
-unfolding laidOut lays front joined
-one-by false number ts r c v R C X h = refl
-one-by true number ts r c v R C X h = rw (h refl)
-
-pub list-one : (N : Network) (r c : List ℕ) (v : List Float) (ok : Bool) (R C X : List ℕ) → ok && (sizesHold N && true) ≡ false → outs 1 R C X ≡ laidOut ok (susceptanceCall N r c v) R C X
-unfolding listNumber
-list-one N r c v ok R C X e = one-by ok _ (list N) r c v R C X (size-fails N true true _ ok e)
-
--- cells that are cut to the list's room
-pub list-cells : {n rows cols values : ℕ} → n ≡ listRoom rows cols values → (r c : List ℕ) (v : List Float) → n ≤ length r → n ≤ length c → n ≤ length v
-    → ListCells rows cols values (length (take n r)) (length (take n c)) (length (take n v))
-list-cells {n} e r c v hr hc hv = record { in-rows = length-take-le n r hr ∙ e; in-cols = length-take-le n c hc ∙ e; in-values = length-take-le n v hv ∙ e }
+  pub susceptance-one : (r c : List ℕ) (v : List Float) (ok : Bool) (R C X : List ℕ) → ok && (sizesHold N && true) ≡ false → outs 1 R C X ≡ laidOut ok (susceptanceCall N r c v) R C X
+  unfolding listNumber
+  susceptance-one r c v ok R C X e = list-one N true true (test 7 (shortList list r c v) ∷ []) list r c v ok R C X e

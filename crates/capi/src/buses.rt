@@ -1,7 +1,7 @@
 // Numbers of every bus.
-use crate::answer::answered;
-use crate::answer::cells_for;
-use crate::decode::take_network;
+use decoding::answer::answered;
+use decoding::answer::cells_for;
+use decoding::decode::take_network;
 use model::dc::current_fixed_withdrawal;
 use model::dc::network_withdrawal;
 use model::dc::phase_withdrawal;
@@ -11,8 +11,8 @@ ghost use lib.ListN.{length};
 ghost use Rattle.words.specs.Words.{doublesOf};
 ghost use Rattle.network.specs.Numbers.{lent};
 ghost use Rattle.model.specs.Calls.{phaseCall, networkCall, fixedCall};
-ghost use Rattle.capi.specs.Exports.{out, allWhole, decoded, filledOut};
-ghost use Rattle.capi.specs.Decoding.{Cells};
+ghost use Rattle.decoding.specs.Exports.{out, allWhole, decoded, filledOut};
+ghost use Rattle.decoding.specs.Decoding.{Cells};
 
 fn phase_withdrawal_out(
     wiring: &[u32],

@@ -1,8 +1,8 @@
 // Numbers of one element.
-use crate::answer::answered;
-use crate::answer::cells_for;
-use crate::decode::take_doubles;
-use crate::decode::take_network;
+use decoding::answer::answered;
+use decoding::answer::cells_for;
+use decoding::decode::take_doubles;
+use decoding::decode::take_network;
 use model::dc::current_flow_offset;
 use model::dc::evaluate;
 use model::dc::generator_cost;
@@ -15,8 +15,8 @@ ghost use lib.ListN.{length};
 ghost use Rattle.words.specs.Words.{doublesOf};
 ghost use Rattle.network.specs.Numbers.{lent};
 ghost use Rattle.model.specs.Calls.{shedCapCall, flowOffsetCall, generatorCostCall, evaluateCall};
-ghost use Rattle.capi.specs.Exports.{out, whole, allWhole, decoded, filledOut};
-ghost use Rattle.capi.specs.Decoding.{Cells};
+ghost use Rattle.decoding.specs.Exports.{out, whole, allWhole, decoded, filledOut};
+ghost use Rattle.decoding.specs.Decoding.{Cells};
 
 fn shed_cap_out(
     wiring: &[u32],

@@ -1,24 +1,16 @@
 // The susceptance list in three sheets.
-use crate::answer::pack;
-use crate::decode::take_network;
+use decoding::answer::list_room;
+use decoding::answer::listed;
+use decoding::decode::take_network;
 use model::dc::susceptance_coo;
-use sequence::least;
-use words::encode_doubles;
-use words::encode_words;
 ghost use mathlib.Core.Path.{_≡_};
 ghost use mathlib.Core.Bool.{true};
 ghost use lib.ListN.{length};
 ghost use Rattle.words.specs.Words.{wordsOf, doublesOf};
 ghost use Rattle.network.specs.Numbers.{lent};
 ghost use Rattle.model.specs.Calls.{susceptanceCall};
-ghost use Rattle.capi.specs.Exports.{outs, allWhole, decoded, laidOut};
-ghost use Rattle.capi.specs.Decoding.{listRoom, ListCells};
-
-fn list_room(rows: usize, cols: usize, values: usize) -> usize
-    ensures { λ n. ⌜ n ≡ listRoom rows cols values ⌝ }
-{
-    least(2048, least(rows / 4, least(cols / 4, values / 8)))
-}
+ghost use Rattle.decoding.specs.Exports.{outs, allWhole, decoded, laidOut};
+ghost use Rattle.decoding.specs.Decoding.{ListCells};
 
 fn susceptance_out(
     wiring: &[u32],
@@ -32,14 +24,11 @@ fn susceptance_out(
     cols: &mut [u8],
     values: &mut [u8],
 ) -> u64
-    requires { ⌜ ListCells (length (now rows)) (length (now cols)) (length (now values)) (length (now r)) (length (now c)) (length (now v)) ⌝ }
+    requires { ⌜ ListCells 2048 (length (now rows)) (length (now cols)) (length (now values)) (length (now r)) (length (now c)) (length (now v)) ⌝ }
     ensures { λ a. ⌜ outs a (now (rows .exit)) (now (cols .exit)) (now (values .exit)) ≡ laidOut true (susceptanceCall (lent (wiring .entry) (readings .entry) («term_index» .entry) («term_coefficient» .entry)) (wordsOf (now (rows .entry))) (wordsOf (now (cols .entry))) (doublesOf (now (values .entry)))) (now (rows .entry)) (now (cols .entry)) (now (values .entry)) ⌝ }
 {
     let a = susceptance_coo(wiring, readings, term_index, term_coefficient, r, c, v);
-    encode_words(r, a.count, rows);
-    encode_words(c, a.count, cols);
-    encode_doubles(v, a.count, values);
-    pack(a.number, a.count)
+    listed(a.number, a.count, r, c, v, rows, cols, values)
 }
 
 #[no_mangle]
@@ -78,7 +67,7 @@ pub extern "C" fn capi_susceptance_coo(
     let mut x = [0u32; 2048];
     let mut y = [0u32; 2048];
     let mut z = [0.0; 2048];
-    let n = list_room(rows.len(), cols.len(), values.len());
+    let n = list_room(2048, rows.len(), cols.len(), values.len());
     susceptance_out(
         &w[..a],
         &r[..b],

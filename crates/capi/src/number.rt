@@ -1,5 +1,5 @@
 // The number of a network, and the kind of a row.
-use crate::decode::take_network;
+use decoding::decode::take_network;
 use model::dc::row_kind;
 use network::check::network_number;
 ghost use mathlib.Core.Path.{_≡_};
@@ -7,7 +7,7 @@ ghost use mathlib.Core.Bool.{cond};
 ghost use Prim.Native.Nat.{_<_};
 ghost use Rattle.network.specs.Numbers.{lent, networkNumber};
 ghost use Rattle.model.specs.Calls.{rowKindCall};
-ghost use Rattle.capi.specs.Exports.{packed, allWhole, decoded};
+ghost use Rattle.decoding.specs.Exports.{packed, allWhole, decoded};
 
 fn wide(x: u32) -> u64
     ensures { λ r. ⌜ (r ≡ x) × (r < 0x1_0000_0000) ⌝ }

@@ -3,10 +3,9 @@
 use mathlib.Core.Path.{_≡_, refl, sym, ap, _∙_}
 use Prim.Native.Nat.{ℕ, _+_, _≤_, _<_}
 use native.Mathlib.Omega.{arith}
-use native.Mathlib.Decide.{decLt}
 use lib.ListN.{getD}
 use Rattle.sequence.specs.Layout.{total, start}
-use Rattle.sequence.proofs.Blocks.{inside, one-block}
+use Rattle.sequence.proofs.Blocks.{inside, one-place}
 use Rattle.network.specs.declared.Counts.{Counts}
 use Rattle.network.specs.declared.Part.{Part}
 use Rattle.network.specs.declared.Part.the-variants.{BrFrom, BrTo, GenBus, Segments, References, GeneratorFlags, ThermalFlags, AngleFlags, Masks, FlowTerms, GenerationTerms}
@@ -85,11 +84,6 @@ field-inside c f = omega (arith, inside (sizes c) (rank f), field-size c f)
 -- two readings at one place are one reading: of one field, at one index
 pub places-apart : (c : Counts) (f g : Field) (i j : ℕ) → i < size c f → j < size c g → place c f i ≡ place c g j → (f ≡ g) × (i ≡ j)
 unfolding place fieldStart
-places-apart c f g i j hi hj e = go (decLt (rank f) (rank g)) (decLt (rank g) (rank f))
-  where
-    go : Dec (rank f < rank g) → Dec (rank g < rank f) → (f ≡ g) × (i ≡ j)
-    go (yes a) d = absurd (one-block (sizes c) (rank f) (rank g) i j (omega (arith, field-size c f)) (omega (arith, field-size c g)) a e)
-    go (no a) (yes b) = absurd (one-block (sizes c) (rank g) (rank f) j i (omega (arith, field-size c g)) (omega (arith, field-size c f)) b (sym e))
-    go (no a) (no b) =
-        let h : rank f ≡ rank g = omega arith in
-        (sym (field-of-rank f) ∙ ap (λ (k : ℕ). getD fields k BaseMva) h ∙ field-of-rank g, omega (arith, ap (start (sizes c)) h))
+places-apart c f g i j hi hj e =
+    let p = one-place (sizes c) (rank f) (rank g) i j (omega (arith, field-size c f)) (omega (arith, field-size c g)) e in
+    (sym (field-of-rank f) ∙ ap (λ (k : ℕ). getD fields k BaseMva) (p .0) ∙ field-of-rank g, p .1)

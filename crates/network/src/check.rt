@@ -1,11 +1,9 @@
 // Numbers 1 to 3 of a network, in the paper's order.
 use crate::Counts;
-use crate::Field;
 use crate::Part;
 use crate::layout::counts;
-use crate::layout::field_size;
 use crate::layout::part_size;
-use crate::layout::reading;
+use crate::layout::wide;
 use crate::layout::word;
 use float64::base_high;
 use float64::base_low;
@@ -21,8 +19,8 @@ ghost use lib.Ieee.Positive.{positive};
 ghost use Rattle.sequence.specs.Lists.{before, every};
 ghost use Rattle.float64.specs.Values.{within, rawLimit};
 ghost use Rattle.sequence.specs.Answers.{firstOf};
-ghost use Rattle.network.specs.Layout.{countsOf, Few, WiringLaid, ReadingsLaid, wire, partSize, size, reading, rowTerms, termStart, fields, segmentsAt};
-ghost use Rattle.network.specs.Numbers.{lent, few, lengthsHold, sumsHold, sizesHold, limited, limitedAt, partLimit, partHolds, termsHold, wiringHolds, inRank, fieldAt, fieldHolds, allWithin, readingsHold, networkTests, networkNumber, Wired, Termed, Accepted, flowTermsHold, generationTermsHold};
+ghost use Rattle.network.specs.Layout.{countsOf, Few, WiringLaid, ReadingsLaid, rowTerms, termStart, fields, segmentsAt};
+ghost use Rattle.network.specs.Numbers.{lent, few, lengthsHold, sumsHold, sizesHold, limited, limitedAt, partLimit, partHolds, termsHold, wiringHolds, fieldHolds, allWithin, readingsHold, networkTests, networkNumber, Wired, Termed, Accepted, flowTermsHold, generationTermsHold};
 
 // Whether no count is above its limit.
 fn few_counts(c: Counts) -> bool
@@ -207,12 +205,6 @@ fn parts_hold(wiring: &[u32], c: Counts) -> bool
     true
 }
 
-fn wide(x: u32) -> usize
-    ensures { λ r. ⌜ r ≡ x ⌝ }
-{
-    x as usize
-}
-
 // Whether each of some indexes is below a limit.
 fn indexes_below(term_index: &[u32], at: usize, count: usize, limit: usize) -> bool
     requires { ⌜ at + count ≤ length (now «term_index») ⌝ }
@@ -274,87 +266,11 @@ pub fn wiring_holds(wiring: &[u32], term_index: &[u32], c: Counts) -> bool
     terms_hold(wiring, term_index, c)
 }
 
-// The fields, by rank.
-const FIELDS: [Field; 21] = [
-    Field::BaseMva,
-    Field::Susceptance,
-    Field::Sw,
-    Field::Shift,
-    Field::FlowOffset,
-    Field::Fmax,
-    Field::Angmin,
-    Field::Angmax,
-    Field::Gmin,
-    Field::Gmax,
-    Field::Cq,
-    Field::Cl,
-    Field::Cc,
-    Field::CShed,
-    Field::Demand,
-    Field::ShuntConductance,
-    Field::HvdcInjection,
-    Field::Slopes,
-    Field::Intercepts,
-    Field::UpperMw,
-    Field::LowerMw,
-];
-
-fn field_at(k: usize) -> Field
-    requires { ⌜ k < 21 ⌝ }
-    ensures { λ f. ⌜ f ≡ fieldAt k ⌝ }
-{
-    FIELDS[k]
-}
-
 // Whether x is a raw reading: finite, and of magnitude at most 10^12.
 pub fn is_raw(x: f64) -> bool
     ensures { λ b. ⌜ b ≡ within rawLimit x ⌝ }
 {
     within(x, raw_limit())
-}
-
-// Whether x is a reading of the field of rank k.
-fn in_rank(k: usize, x: f64) -> bool
-    ensures { λ b. ⌜ b ≡ inRank k x ⌝ }
-{
-    if k == 0 {
-        return in_range(x, base_low(), base_high());
-    }
-    is_raw(x)
-}
-
-// Whether a field's readings are within the limits of rank k.
-fn field_within(readings: &[f64], c: Counts, f: Field, k: usize) -> bool
-    requires { ⌜ ReadingsLaid c (now readings) ⌝ }
-    ensures { λ b. ⌜ b ≡ every (λ i. inRank k (reading c (now (readings .entry)) f i)) (size c f) ⌝ }
-{
-    let to = field_size(c, f);
-    for i in 0..to {
-        if !in_rank(k, reading(readings, c, f, i)) {
-            return false;
-        }
-    }
-    true
-}
-
-fn field_holds(readings: &[f64], c: Counts, k: usize) -> bool
-    requires { ⌜ ReadingsLaid c (now readings) ⌝ }
-    requires { ⌜ k < 21 ⌝ }
-    ensures { λ b. ⌜ b ≡ fieldHolds c (now (readings .entry)) k ⌝ }
-{
-    field_within(readings, c, field_at(k), k)
-}
-
-fn fields_hold(readings: &[f64], c: Counts) -> bool
-    requires { ⌜ ReadingsLaid c (now readings) ⌝ }
-    ensures { λ b. ⌜ b ≡ every (fieldHolds c (now (readings .entry))) (length fields) ⌝ }
-{
-    for k in 0..21usize {
-        if !field_holds(readings, c, k) {
-            return false;
-        }
-    }
-    true
 }
 
 // Whether each word is finite and of magnitude at most a limit.
@@ -368,6 +284,17 @@ pub fn all_within(xs: &[f64], limit: f64) -> bool
         }
     }
     true
+}
+
+// Whether every field's readings are within its limits: base_mva, which stands first, and then all the others.
+fn fields_hold(readings: &[f64], c: Counts) -> bool
+    requires { ⌜ ReadingsLaid c (now readings) ⌝ }
+    ensures { λ b. ⌜ b ≡ every (fieldHolds c (now (readings .entry))) (length fields) ⌝ }
+{
+    if !in_range(readings[0], base_low(), base_high()) {
+        return false;
+    }
+    all_within(&readings[1..], raw_limit())
 }
 
 // Number 3's conditions.

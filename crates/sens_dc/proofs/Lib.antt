@@ -1,2 +1,2 @@
--- The laws that proofs cite, here and in the crates above. Assumes nothing.
-pub mod Blocks
+-- The returns of the matrix call. Assumes nothing.
+pub mod Returns

@@ -1,142 +1,159 @@
-// sens/dc.rs: where the rows and columns of the KKT matrix stand.
-use model::RowLimits;
-use model::rows::row_limits;
+// sens/dc.rs, the matrix as a public call: the KKT Jacobian as triplets.
+use kkt_laws::most;
+use kkt_list::put_kkt;
 use network::Counts;
+use network::layout::counts;
+use sequence::Answer;
+use sequence::room;
+use solution_check::solution_number;
 ghost use mathlib.Core.Path.{_≡_};
-ghost use Prim.Native.Nat.{_*_, _≤_, _<_};
-ghost use Rattle.float64.specs.Values.{tolerance};
-ghost use Rattle.network.specs.Layout.{Few, WiringLaid, ReadingsLaid};
-ghost use Rattle.sens_dc.specs.Index.{rowsOf, linearRows, Indexed};
+ghost use mathlib.Core.List.{[]};
+ghost use Rattle.sequence.specs.Sheets.{laid, laysIf, room};
+ghost use Rattle.network.specs.Layout.{ReadingsLaid};
+ghost use Rattle.network.specs.Numbers.{lent, Wired, Termed};
+ghost use Rattle.solution.specs.Sheet.{pieces, SheetLaid};
+ghost use Rattle.kkt.specs.Slots.Rule.{firstPlace};
+ghost use Rattle.kkt.specs.Matrix.{kktList};
+ghost use Rattle.sens_dc.specs.Calls.{matrixCall};
 
-// The blocks of the matrix's rows and columns, in order.
-pub enum Block {
-    Va,
-    Pg,
-    Flow,
-    Psh,
-    Cost,
-    LamLb,
-    LamUb,
-    GammaLb,
-    GammaUb,
-    RhoLb,
-    RhoUb,
-    MuLb,
-    MuUb,
-    Segments,
-    Linear,
-    NuBal,
-    NuFlow,
-    Eta,
-}
-
-// Where each block starts, and how many rows and columns there are.
-pub struct KktIdx {
-    pub va: usize,
-    pub pg: usize,
-    pub flow: usize,
-    pub psh: usize,
-    pub cost: usize,
-    pub lam_lb: usize,
-    pub lam_ub: usize,
-    pub gamma_lb: usize,
-    pub gamma_ub: usize,
-    pub rho_lb: usize,
-    pub rho_ub: usize,
-    pub mu_lb: usize,
-    pub mu_ub: usize,
-    pub segments: usize,
-    pub linear: usize,
-    pub nu_bal: usize,
-    pub nu_flow: usize,
-    pub eta: usize,
-    pub dim: usize,
-}
-
-impl KktIdx {
-    // The snap tolerance: 1 divided by 1,000,000, rounded once.
-    pub const SNAP_TOL: f64 = 1.0 / 1000000.0;
-
-    // The constant, as a contract cites it.
-    pub fn snap_tol() -> f64
-        ensures { λ r. ⌜ r ≡ tolerance ⌝ }
-    {
-        KktIdx::SNAP_TOL
-    }
-
-    // p is the number of piecewise generators, l that of the linear block's rows.
-    pub fn new(c: Counts, p: usize, l: usize) -> KktIdx
-        requires { ⌜ Few c ⌝ }
-        requires { ⌜ (p ≤ c .generators) × (l ≤ 2 * c .rows) ⌝ }
-        ensures { λ x. ⌜ Indexed c p l x ⌝ }
-    {
-        let n = c.buses;
-        let m = c.branches;
-        let k = c.generators;
-        let pg = n;
-        let flow = pg + k;
-        let psh = flow + m;
-        let cost = psh + n;
-        let lam_lb = cost + p;
-        let lam_ub = lam_lb + m;
-        let gamma_lb = lam_ub + m;
-        let gamma_ub = gamma_lb + m;
-        let rho_lb = gamma_ub + m;
-        let rho_ub = rho_lb + k;
-        let mu_lb = rho_ub + k;
-        let mu_ub = mu_lb + n;
-        let segments = mu_ub + n;
-        let linear = segments + c.segments;
-        let nu_bal = linear + l;
-        let nu_flow = nu_bal + n;
-        let eta = nu_flow + m;
-        KktIdx {
-            va: 0,
-            pg,
-            flow,
-            psh,
-            cost,
-            lam_lb,
-            lam_ub,
-            gamma_lb,
-            gamma_ub,
-            rho_lb,
-            rho_ub,
-            mu_lb,
-            mu_ub,
-            segments,
-            linear,
-            nu_bal,
-            nu_flow,
-            eta,
-            dim: eta + c.references,
-        }
-    }
-}
-
-// How many rows of the matrix a linear row has.
-pub fn rows_of(limits: RowLimits) -> usize
-    ensures { λ r. ⌜ r ≡ rowsOf limits ⌝ }
-{
-    match limits {
-        RowLimits::None => 0,
-        RowLimits::Upper(_) => 1,
-        RowLimits::Lower(_) => 1,
-        RowLimits::Both(_, _) => 2,
-        RowLimits::Equal(_) => 1,
-    }
-}
-
-// How many rows of the matrix the linear rows have.
-pub fn linear_rows(wiring: &[u32], readings: &[f64], c: Counts) -> usize
-    requires { ⌜ WiringLaid c (now wiring) ⌝ }
+// The list where the sheets, of which the shortest holds `cap`, hold it: counted first, then written.
+fn lay_counted(
+    wiring: &[u32],
+    readings: &[f64],
+    term_index: &[u32],
+    term_coefficient: &[f64],
+    solution: &[f64],
+    c: Counts,
+    rows: &mut [u32],
+    cols: &mut [u32],
+    values: &mut [f64],
+    cap: usize,
+) -> Answer
+    requires { ⌜ Wired c (now wiring) ⌝ }
     requires { ⌜ ReadingsLaid c (now readings) ⌝ }
-    ensures { λ r. ⌜ (r ≡ linearRows c (now (wiring .entry)) (now (readings .entry))) × (r ≤ 2 * c .rows) ⌝ }
+    requires { ⌜ Termed c (now wiring) (now «term_index») (now «term_coefficient») ⌝ }
+    requires { ⌜ SheetLaid c (pieces c (now wiring)) (now solution) ⌝ }
+    requires { ⌜ cap ≡ room (now rows) (now cols) (now values) ⌝ }
+    ensures { λ a. ⌜ laid (a .number) (a .count) (now (rows .exit)) (now (cols .exit)) (now (values .exit)) ≡ laysIf (kktList firstPlace c (now (wiring .entry)) (now (readings .entry)) (now («term_index» .entry)) (now («term_coefficient» .entry)) (now (solution .entry))) (now (rows .entry)) (now (cols .entry)) (now (values .entry)) ⌝ }
 {
-    let mut count = 0;
-    let to = c.rows;
-    for q in 0..to {
-        count += rows_of(row_limits(wiring, readings, c, q));
+    let count = put_kkt(
+        wiring,
+        readings,
+        term_index,
+        term_coefficient,
+        solution,
+        c,
+        rows,
+        cols,
+        values,
+        0,
+    );
+    if cap < count {
+        return Answer {
+            number: 7,
+            count: 0,
+        };
     }
-    count
+    let done = put_kkt(
+        wiring,
+        readings,
+        term_index,
+        term_coefficient,
+        solution,
+        c,
+        rows,
+        cols,
+        values,
+        count,
+    );
+    Answer {
+        number: 0,
+        count: done,
+    }
+}
+
+// The same in one pass where the sheets hold the most triplets that the list can have.
+pub fn lay_kkt(
+    wiring: &[u32],
+    readings: &[f64],
+    term_index: &[u32],
+    term_coefficient: &[f64],
+    solution: &[f64],
+    c: Counts,
+    rows: &mut [u32],
+    cols: &mut [u32],
+    values: &mut [f64],
+) -> Answer
+    requires { ⌜ Wired c (now wiring) ⌝ }
+    requires { ⌜ ReadingsLaid c (now readings) ⌝ }
+    requires { ⌜ Termed c (now wiring) (now «term_index») (now «term_coefficient») ⌝ }
+    requires { ⌜ SheetLaid c (pieces c (now wiring)) (now solution) ⌝ }
+    ensures { λ a. ⌜ laid (a .number) (a .count) (now (rows .exit)) (now (cols .exit)) (now (values .exit)) ≡ laysIf (kktList firstPlace c (now (wiring .entry)) (now (readings .entry)) (now («term_index» .entry)) (now («term_coefficient» .entry)) (now (solution .entry))) (now (rows .entry)) (now (cols .entry)) (now (values .entry)) ⌝ }
+{
+    let cap = room(rows, cols, values);
+    let bound = most(c);
+    if bound <= cap {
+        let count = put_kkt(
+            wiring,
+            readings,
+            term_index,
+            term_coefficient,
+            solution,
+            c,
+            rows,
+            cols,
+            values,
+            bound,
+        );
+        return Answer { number: 0, count };
+    }
+    lay_counted(
+        wiring,
+        readings,
+        term_index,
+        term_coefficient,
+        solution,
+        c,
+        rows,
+        cols,
+        values,
+        cap,
+    )
+}
+
+// The KKT matrix of a network at its solution sheet, snapped, as triplets in the original's order.
+pub fn kkt_triplets(
+    wiring: &[u32],
+    readings: &[f64],
+    term_index: &[u32],
+    term_coefficient: &[f64],
+    solution: &[f64],
+    rows: &mut [u32],
+    cols: &mut [u32],
+    values: &mut [f64],
+) -> Answer
+    ensures { λ a. ⌜ laid (a .number) (a .count) (now (rows .exit)) (now (cols .exit)) (now (values .exit)) ≡ matrixCall firstPlace [] (lent (wiring .entry) (readings .entry) («term_index» .entry) («term_coefficient» .entry)) (now (solution .entry)) (now (rows .entry)) (now (cols .entry)) (now (values .entry)) ⌝ }
+{
+    let number = solution_number(
+        wiring,
+        readings,
+        term_index,
+        term_coefficient,
+        solution,
+        false,
+    );
+    if number != 0 {
+        return Answer { number, count: 0 };
+    }
+    lay_kkt(
+        wiring,
+        readings,
+        term_index,
+        term_coefficient,
+        solution,
+        counts(wiring),
+        rows,
+        cols,
+        values,
+    )
 }

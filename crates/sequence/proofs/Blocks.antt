@@ -1,5 +1,5 @@
--- Blocks of a flat list lie apart: main results `apart`, `inside`, `one-block`, `in-block`. Assumes nothing.
-use mathlib.Core.Path.{_≡_, refl}
+-- Blocks of a flat list lie apart: main results `apart`, `inside`, `one-place`, `in-block`. Assumes nothing.
+use mathlib.Core.Path.{_≡_, refl, sym, ap}
 use mathlib.Core.List.{List, [], _∷_}
 use Prim.Native.Nat.{ℕ, zero, suc, _+_, _-_, _≤_, _<_}
 use native.Mathlib.Omega.{arith}
@@ -27,6 +27,15 @@ inside (x ∷ xs) (suc r) = omega (arith, inside xs r)
 -- two places that are one place are of one block
 pub one-block : (sizes : List ℕ) (r s i j : ℕ) → i < getD sizes r 0 → j < getD sizes s 0 → r < s → start sizes r + i ≡ start sizes s + j → ⊥
 one-block sizes r s i j hi hj h e = omega (arith, apart sizes r s h)
+
+-- so they have one rank and one index
+pub one-place : (sizes : List ℕ) (r s i j : ℕ) → i < getD sizes r 0 → j < getD sizes s 0 → start sizes r + i ≡ start sizes s + j → (r ≡ s) × (i ≡ j)
+one-place sizes r s i j hi hj e = go (decLt r s) (decLt s r)
+  where
+    go : Dec (r < s) → Dec (s < r) → (r ≡ s) × (i ≡ j)
+    go (yes h) d = absurd (one-block sizes r s i j hi hj h e)
+    go (no h) (yes d) = absurd (one-block sizes s r j i hj hi d (sym e))
+    go (no h) (no d) = let q : r ≡ s = omega arith in (q, omega (arith, ap (start sizes) q))
 
 -- a place of the whole, by block: of rank r, at j
 pub record Placed (sizes : List ℕ) (i : ℕ) : Type 0 where

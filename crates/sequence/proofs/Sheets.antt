@@ -1,5 +1,5 @@
 -- The laws of `Puts`, which every loop that puts triplets cites, and what a counting and a writing pass leave.
--- Main results: `then`, `more`, `lays-once`, `lays-short`, `lays-twice`. Assumes nothing.
+-- Main results: `then`, `more`, `room-kept`, `lays-once`, `lays-short`, `lays-twice`. Assumes nothing.
 use mathlib.Core.Path.{_≡_, refl, sym, ap, _∙_}
 use Prim.Native.Nat.{ℕ, zero, suc, _+_, _≤_, _<_, zero-le, min}
 use native.Mathlib.Numerals.{add-one}
@@ -50,6 +50,15 @@ done f p q h = rw (le-antisymm p q) at h
 -- an item that was put is the item that the specification names
 pub put-of : {l : ℕ} {S₀ S₁ : Sheets} {t u : Item} → t ≡ u → Puts l (emit t) S₀ S₁ → Puts l (emit u) S₀ S₁
 put-of e p = rw e at p
+
+-- the sheets' room after a list was put
+pub room-kept : {l : ℕ} {ts : List Triplet} {S₀ S₁ : Sheets} → Room l S₀ → Puts l ts S₀ S₁ → S₁ .at < 0x4000_0000 → Room l S₁
+room-kept r p h = record {
+  in-rows = omega (arith, r .in-rows, p .rows-kept);
+  in-cols = omega (arith, r .in-cols, p .cols-kept);
+  in-values = omega (arith, r .in-values, p .values-kept);
+  far = h;
+}
 
 -- ---- a counting pass, below no place: nothing is stored
 

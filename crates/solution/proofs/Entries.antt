@@ -2,13 +2,12 @@
 use mathlib.Core.Path.{_≡_, refl, sym, ap, _∙_}
 use Prim.Native.Nat.{ℕ, _+_, _≤_, _<_}
 use native.Mathlib.Omega.{arith}
-use native.Mathlib.Decide.{decLt}
 use mathlib.Core.Bool.{Bool, true, false, cond}
 use mathlib.Core.List.{List}
 use lib.Dec.{eqb}
 use lib.ListN.{getD}
 use Rattle.sequence.specs.Layout.{total, start}
-use Rattle.sequence.proofs.Blocks.{inside, one-block}
+use Rattle.sequence.proofs.Blocks.{inside, one-place}
 use Rattle.network.specs.declared.Counts.{Counts}
 use Rattle.solution.specs.declared.Entry.{Entry}
 use Rattle.solution.specs.declared.Entry.the-variants.{Va, Pg, Flow, Psh, NuBal, LamUb, LamLb, RhoUb, RhoLb, MuUb, MuLb, GammaUb, GammaLb, Epigraph, SegmentDual, LinearDual, LinearValue, Objective}
@@ -65,14 +64,9 @@ entry-inside c p e = omega (arith, inside (sizes c p) (rank e), entry-size c p e
 -- two words at one place are one word: of one entry, at one index
 pub entries-apart : (c : Counts) (p : ℕ) (e g : Entry) (i j : ℕ) → i < size c p e → j < size c p g → entryStart c p e + i ≡ entryStart c p g + j → (e ≡ g) × (i ≡ j)
 unfolding entryStart
-entries-apart c p e g i j hi hj q = go (decLt (rank e) (rank g)) (decLt (rank g) (rank e))
-  where
-    go : Dec (rank e < rank g) → Dec (rank g < rank e) → (e ≡ g) × (i ≡ j)
-    go (yes a) d = absurd (one-block (sizes c p) (rank e) (rank g) i j (omega (arith, entry-size c p e)) (omega (arith, entry-size c p g)) a q)
-    go (no a) (yes d) = absurd (one-block (sizes c p) (rank g) (rank e) j i (omega (arith, entry-size c p g)) (omega (arith, entry-size c p e)) d (sym q))
-    go (no a) (no d) =
-        let h : rank e ≡ rank g = omega arith in
-        (sym (entry-of-rank e) ∙ ap (λ (k : ℕ). getD entries k Va) h ∙ entry-of-rank g, omega (arith, ap (start (sizes c p)) h))
+entries-apart c p e g i j hi hj q =
+    let h = one-place (sizes c p) (rank e) (rank g) i j (omega (arith, entry-size c p e)) (omega (arith, entry-size c p g)) q in
+    (sym (entry-of-rank e) ∙ ap (λ (k : ℕ). getD entries k Va) (h .0) ∙ entry-of-rank g, h .1)
 
 -- one generator more, of so many segments
 pub piece-more : (c : Counts) (w : List ℕ) (j : ℕ) {count segments next : ℕ} → count ≡ before (piece c w) j → count ≤ j → segments ≡ segmentsAt c w j

@@ -32,7 +32,7 @@ pub enum Entry {
 }
 
 // One more, for a piecewise generator.
-fn more(count: usize, segments: usize) -> usize
+pub fn next_piece(count: usize, segments: usize) -> usize
     requires { ⌜ count ≤ 256 ⌝ }
     ensures { λ r. ⌜ r ≡ count + cond (eqb segments 0) 0 1 ⌝ }
 {
@@ -50,7 +50,7 @@ pub fn piece_count(wiring: &[u32], c: Counts) -> usize
     let mut count = 0;
     let to = c.generators;
     for j in 0..to {
-        count = more(count, word(wiring, c, Part::Segments, j));
+        count = next_piece(count, word(wiring, c, Part::Segments, j));
     }
     count
 }

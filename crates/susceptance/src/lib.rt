@@ -172,7 +172,7 @@ fn blank(acc: &mut [f64], n: usize)
 }
 
 // Row i by column, made anew.
-fn make_row(
+pub fn make_row(
     wiring: &[u32],
     readings: &[f64],
     c: Counts,

@@ -141,6 +141,66 @@ mod exports {
             values: *mut u8,
             values_length: usize,
         ) -> u64;
+        pub fn capi_snap(
+            wiring: *const u8,
+            wiring_length: usize,
+            readings: *const u8,
+            readings_length: usize,
+            term_index: *const u8,
+            term_index_length: usize,
+            term_coefficient: *const u8,
+            term_coefficient_length: usize,
+            solution: *const u8,
+            solution_length: usize,
+            out: *mut u8,
+            out_length: usize,
+        ) -> u64;
+        pub fn capi_snap_linear(
+            wiring: *const u8,
+            wiring_length: usize,
+            readings: *const u8,
+            readings_length: usize,
+            term_index: *const u8,
+            term_index_length: usize,
+            term_coefficient: *const u8,
+            term_coefficient_length: usize,
+            solution: *const u8,
+            solution_length: usize,
+            out: *mut u8,
+            out_length: usize,
+        ) -> u64;
+        pub fn capi_nu_flow_values(
+            wiring: *const u8,
+            wiring_length: usize,
+            readings: *const u8,
+            readings_length: usize,
+            term_index: *const u8,
+            term_index_length: usize,
+            term_coefficient: *const u8,
+            term_coefficient_length: usize,
+            solution: *const u8,
+            solution_length: usize,
+            out: *mut u8,
+            out_length: usize,
+        ) -> u64;
+        pub fn capi_kkt_triplets(
+            wiring: *const u8,
+            wiring_length: usize,
+            readings: *const u8,
+            readings_length: usize,
+            term_index: *const u8,
+            term_index_length: usize,
+            term_coefficient: *const u8,
+            term_coefficient_length: usize,
+            solution: *const u8,
+            solution_length: usize,
+            rows: *mut u8,
+            rows_length: usize,
+            cols: *mut u8,
+            cols_length: usize,
+            values: *mut u8,
+            values_length: usize,
+        ) -> u64;
     }
 }
 
@@ -228,9 +288,57 @@ pub fn susceptance_coo(net: Network, rows: Out, cols: Out, values: Out) -> u64 {
     broken::sign(rows, cols, values, answer)
 }
 
+pub fn snap(net: Network, solution: In, out: Out) -> u64 {
+    let s = solution;
+    let answer = call!(capi_snap, net, s.at, s.length, out.at, out.length);
+    broken::snap(net, solution, out, answer)
+}
+
+pub fn snap_linear(net: Network, solution: In, out: Out) -> u64 {
+    let s = solution;
+    let answer = call!(capi_snap_linear, net, s.at, s.length, out.at, out.length);
+    broken::snap_linear(net, solution, out, answer)
+}
+
+pub fn nu_flow_values(net: Network, solution: In, out: Out) -> u64 {
+    let s = solution;
+    let answer = call!(capi_nu_flow_values, net, s.at, s.length, out.at, out.length);
+    broken::nu_flow(net, out, answer)
+}
+
+pub fn kkt_triplets(net: Network, solution: In, rows: Out, cols: Out, values: Out) -> u64 {
+    let (s, r, c, v) = (solution, rows, cols, values);
+    let answer = call!(
+        capi_kkt_triplets,
+        net,
+        s.at,
+        s.length,
+        r.at,
+        r.length,
+        c.at,
+        c.length,
+        v.at,
+        v.length
+    );
+    let answer = broken::tail(net, solution, answer);
+    broken::reference(net, rows, cols, broken::fit(values, answer))
+}
+
 /// Deliberately wrong answers, one a feature. Without features each passes its answer on.
 mod broken {
-    use super::{Network, Out};
+    use super::{In, Network, Out};
+    use crate::calls::Site;
+    use crate::paper::{self, doubles, tolerance, Block, Count, Field, Lent, Wire};
+
+    fn site(net: Network) -> Site {
+        let bytes = |lent: In| unsafe { lent.bytes() }.to_vec();
+        Site::new(Lent {
+            wiring: bytes(net.wiring),
+            readings: bytes(net.readings),
+            term_index: bytes(net.term_index),
+            term_coefficient: bytes(net.term_coefficient),
+        })
+    }
 
     /// The first triplet off the diagonal gets the wrong sign.
     pub fn sign(rows: Out, cols: Out, values: Out, answer: u64) -> u64 {
@@ -249,8 +357,8 @@ mod broken {
     /// 513 branches pass.
     pub fn limit(net: Network, answer: u64) -> u64 {
         if cfg!(feature = "broken_limit") && answer == 1 && net.wiring.length >= 8 {
-            let wiring = unsafe { std::slice::from_raw_parts(net.wiring.at, net.wiring.length) };
-            if crate::paper::word(wiring, 1) == 513 {
+            let wiring = unsafe { net.wiring.bytes() };
+            if paper::word(wiring, 1) == 513 {
                 return 0;
             }
         }
@@ -273,6 +381,107 @@ mod broken {
         }
         answer
     }
+
+    /// An angle's dual is dropped where its slack is the tolerance itself.
+    pub fn snap(net: Network, solution: In, out: Out, answer: u64) -> u64 {
+        if cfg!(feature = "broken_snap") && answer % 256 == 0 {
+            let site = site(net);
+            let words = doubles(unsafe { solution.bytes() });
+            let va = &words[site.shape().blocks.range(Block::Va)];
+            let dual = site.shape().blocks.range(Block::GammaUb).start;
+            for e in 0..site.shape().count(Count::Branches) {
+                let (i, j) = (site.wire(Wire::BrFrom, e), site.wire(Wire::BrTo, e));
+                let slack = site.reading(Field::Angmax, e) - (va[i as usize] - va[j as usize]);
+                if slack == tolerance() {
+                    let bytes = unsafe { out.bytes() };
+                    bytes[8 * (dual + e)..8 * (dual + e) + 8].fill(0);
+                }
+            }
+        }
+        answer
+    }
+
+    /// An upper limit's dual is dropped where its slack is the tolerance itself.
+    pub fn snap_linear(net: Network, solution: In, out: Out, answer: u64) -> u64 {
+        if cfg!(feature = "broken_snap_linear") && answer % 256 == 0 {
+            let site = site(net);
+            let words = doubles(unsafe { solution.bytes() });
+            let blocks = &site.shape().blocks;
+            let (f, pg) = (&words[blocks.range(Block::F)], &words[blocks.range(Block::Pg)]);
+            for row in 0..site.shape().count(Count::Rows) {
+                let limit = site.reading(Field::UpperMw, row) / site.reading(Field::Base, 0);
+                let inequality = matches!(site.oracle().row_kind(row), 1 | 3);
+                if inequality && limit - site.oracle().evaluate(row, f, pg) == tolerance() {
+                    let bytes = unsafe { out.bytes() };
+                    bytes[24 * row..24 * row + 8].fill(0);
+                }
+            }
+        }
+        answer
+    }
+
+    /// The last branch's dual is one double off where a row weighs the branch.
+    pub fn nu_flow(net: Network, out: Out, answer: u64) -> u64 {
+        if cfg!(feature = "broken_nu_flow") && answer % 256 == 0 && answer > 0 {
+            let site = site(net);
+            let last = site.shape().count(Count::Branches) - 1;
+            let kinds = paper::term_kinds(&site.lent, site.shape());
+            let weighed = |place: usize| paper::word(&site.lent.term_index, place) as usize == last;
+            let flows = |place: usize| kinds[place] == Count::Branches && weighed(place);
+            if (0..kinds.len()).any(flows) {
+                let bytes = unsafe { out.bytes() };
+                bytes[8 * last] ^= 1;
+            }
+        }
+        answer
+    }
+
+    /// The matrix looks at the sheet's last word.
+    pub fn tail(net: Network, solution: In, answer: u64) -> u64 {
+        if cfg!(feature = "broken_tail") && answer % 256 == 0 && net.wiring.length > 0 {
+            let words = doubles(unsafe { solution.bytes() });
+            if words.last().map_or(false, |x| !x.is_finite()) {
+                return 3;
+            }
+        }
+        answer
+    }
+
+    /// A matrix that fills its values exactly doesn't fit.
+    pub fn fit(values: Out, answer: u64) -> u64 {
+        if cfg!(feature = "broken_fit") && answer == 32 * values.length as u64 && answer > 0 {
+            return 7;
+        }
+        answer
+    }
+
+    /// A reference listed twice has its entry at its last place.
+    pub fn reference(net: Network, rows: Out, cols: Out, answer: u64) -> u64 {
+        if cfg!(feature = "broken_reference") && answer % 256 == 0 {
+            let site = site(net);
+            let starts = site.oracle().block_starts();
+            let places = site.shape().count(Count::References);
+            let bus = |place: usize| site.wire(Wire::References, place) as usize;
+            let (rows, cols) = unsafe { (rows.bytes(), cols.bytes()) };
+            for triplet in 0..(answer / 256) as usize {
+                let (row, col) = (paper::word(rows, triplet), paper::word(cols, triplet));
+                let (row, col) = (row as usize, col as usize);
+                if row >= starts.eta && col < starts.va + site.shape().count(Count::Buses) {
+                    let last = (0..places).rev().find(|&place| bus(place) == col - starts.va);
+                    let last = last.map_or(row, |place| starts.eta + place);
+                    paper::set_word(rows, triplet, last as u32);
+                }
+            }
+        }
+        answer
+    }
+}
+
+impl In {
+    /// The lent bytes. The memory must be a `Memory`'s.
+    unsafe fn bytes<'a>(self) -> &'a [u8] {
+        std::slice::from_raw_parts(self.at, self.length)
+    }
 }
 
 impl Out {
@@ -288,7 +497,8 @@ const SLOT: usize = 1 << 18;
 const GUARD_PAGE: usize = 1 << 16;
 /// Bytes before and after a lent output.
 const GUARD: usize = 64;
-const POOL: usize = 1 << 16;
+/// The matrix of the greatest network has at most 27,552 triplets.
+const POOL: usize = 1 << 18;
 
 /// Memory for one input slice, which always ends at its end.
 struct Slot {

@@ -8,11 +8,12 @@ use crate::damage::{broken_double, Fault};
 use crate::generate::{sheet_value, value};
 use crate::marks::mark_call;
 use crate::paper::{
-    self, bytes_of_doubles, double, within, word, Count, Field, Held, Lent, Shape, Wire,
+    self, bytes_of_doubles, double, within, word, Blocks, Count, Field, Held, Lent, Shape, Wire,
     READING_LIMIT, SHEET_LIMIT, SLICE_NAMES,
 };
 use crate::random::Rng;
 use crate::report::{Coverage, Mismatch};
+use crate::solutions;
 
 /// A network as lent, with the paper's reading of it; the original Rust answers for it
 /// where it is accepted.
@@ -39,7 +40,7 @@ impl Site {
         Site { lent, held, shape, oracle }
     }
 
-    fn oracle(&self) -> &Oracle {
+    pub fn oracle(&self) -> &Oracle {
         self.oracle.as_ref().expect("asked of accepted networks only")
     }
 
@@ -123,6 +124,30 @@ impl Lend {
     }
 }
 
+/// The length of a lent list of sheet readings.
+#[derive(Clone, Copy, Debug, PartialEq, Eq)]
+pub enum Length {
+    Of(Count),
+    /// A whole solution sheet, each word of which is looked at.
+    Solution,
+    /// A whole solution sheet whose last q + 1 words may hold anything.
+    SolutionFront,
+}
+
+impl Length {
+    pub fn is_solution(self) -> bool {
+        !matches!(self, Length::Of(_))
+    }
+
+    /// The words that are looked at, given the sheet's layout.
+    pub fn looked_at(self, blocks: &Blocks) -> usize {
+        match self {
+            Length::SolutionFront => blocks.front(),
+            _ => blocks.length(),
+        }
+    }
+}
+
 /// Everything a call is given beside the network.
 #[derive(Clone, Debug, Default)]
 pub struct Args {
@@ -130,6 +155,8 @@ pub struct Args {
     pub bits: u64,
     pub lists: Vec<Vec<u8>>,
     pub lends: Vec<Lend>,
+    /// Whether a refused call whose result's length is open is lent room for any result.
+    pub roomy: bool,
 }
 
 /// A call and how it is checked.
@@ -137,8 +164,8 @@ pub struct Op {
     pub name: &'static str,
     /// What the index argument counts.
     pub index: Option<Count>,
-    /// Lent sheet readings: each list's name and the count that is its length.
-    pub lists: &'static [(&'static str, Count)],
+    /// Lent sheet readings: each list's name and its length.
+    pub lists: &'static [(&'static str, Length)],
     /// Whether the bits argument is a power, a raw reading.
     pub power: bool,
     /// Lent outputs.
@@ -229,7 +256,7 @@ pub static OPS: &[Op] = &[
     Op {
         name: "evaluate",
         index: Some(Count::Rows),
-        lists: &[("f", Count::Branches), ("pg", Count::Generators)],
+        lists: &[("f", Length::Of(Count::Branches)), ("pg", Length::Of(Count::Generators))],
         power: false,
         sheets: &[("out", Word::F64)],
         numbers: &[0, 1, 2, 3, 5, 7],
@@ -317,6 +344,74 @@ pub static OPS: &[Op] = &[
             abi::susceptance_coo(memory.network(), rows, cols, values)
         },
     },
+    Op {
+        name: "snap",
+        index: None,
+        lists: &[("solution", Length::Solution)],
+        power: false,
+        sheets: &[("out", Word::F64)],
+        numbers: &[0, 1, 2, 3, 7],
+        rounds: 1,
+        need: |site| site.shape.as_ref().map(|shape| shape.blocks.length()),
+        answer: |site, args| all(site.oracle().snap(&paper::doubles(&args.lists[0]))),
+        invoke: |memory, _| {
+            let out = memory.sheet(0);
+            abi::snap(memory.network(), memory.list(0), out)
+        },
+    },
+    Op {
+        name: "snap_linear",
+        index: None,
+        lists: &[("solution", Length::Solution)],
+        power: false,
+        sheets: &[("out", Word::F64)],
+        numbers: &[0, 1, 2, 3, 7],
+        rounds: 1,
+        need: |site| site.count(Count::Rows).map(|rows| 3 * rows),
+        answer: |site, args| {
+            let duals = site.oracle().snap_linear(&paper::doubles(&args.lists[0]));
+            all(duals.into_iter().flatten().collect())
+        },
+        invoke: |memory, _| {
+            let out = memory.sheet(0);
+            abi::snap_linear(memory.network(), memory.list(0), out)
+        },
+    },
+    Op {
+        name: "nu_flow_values",
+        index: None,
+        lists: &[("solution", Length::Solution)],
+        power: false,
+        sheets: &[("out", Word::F64)],
+        numbers: &[0, 1, 2, 3, 7],
+        rounds: 1,
+        need: |site| site.count(Count::Branches),
+        answer: |site, args| all(site.oracle().nu_flow_values(&paper::doubles(&args.lists[0]))),
+        invoke: |memory, _| {
+            let out = memory.sheet(0);
+            abi::nu_flow_values(memory.network(), memory.list(0), out)
+        },
+    },
+    Op {
+        name: "kkt_triplets",
+        index: None,
+        lists: &[("solution", Length::SolutionFront)],
+        power: false,
+        sheets: &[("rows", Word::U32), ("cols", Word::U32), ("values", Word::F64)],
+        numbers: &[0, 1, 2, 3, 7],
+        rounds: 1,
+        need: not_by_counts,
+        answer: |site, args| {
+            let list = site.oracle().jacobian(&paper::doubles(&args.lists[0]));
+            assert!(list.len() <= site.shape().matrix_most(), "the paper's bound of the list");
+            assert!(list.len() >= site.shape().matrix_least(), "triplets of every bus");
+            triplets(list)
+        },
+        invoke: |memory, _| {
+            let (rows, cols, values) = (memory.sheet(0), memory.sheet(1), memory.sheet(2));
+            abi::kkt_triplets(memory.network(), memory.list(0), rows, cols, values)
+        },
+    },
 ];
 
 fn triplets(list: Vec<(usize, usize, f64)>) -> Answer {
@@ -351,7 +446,7 @@ impl Op {
         for &low in self.numbers.iter().filter(|&&number| number > 0) {
             for &high in self.numbers.iter().filter(|&&number| number > low) {
                 let readable = low > 1 || !self.lists.is_empty();
-                let sized = high != 7 || self.sheets.len() == 1;
+                let sized = high != 7 || self.sheets.len() == 1 || self.solved();
                 if readable && sized {
                     pairs.push((low, high));
                 }
@@ -363,12 +458,32 @@ impl Op {
     /// Arguments for a call: most in order, some broken, each by itself.
     pub fn draw(&self, site: &Site, rng: &mut Rng) -> Args {
         let size = |count: Count| site.count(count).unwrap_or(3);
+        let mut list = |length: Length| match length {
+            Length::Of(count) => draw_list(rng, size(count)),
+            _ => solutions::draw(rng, site, length == Length::SolutionFront),
+        };
+        let lists = self.lists.iter().map(|of| list(of.1)).collect();
         Args {
             index: self.index.map_or(0, |count| draw_index(rng, size(count))),
             bits: if self.power { draw_power(rng) } else { 0 },
-            lists: self.lists.iter().map(|list| draw_list(rng, size(list.1))).collect(),
+            lists,
             lends: draw_lends(rng, self.sheets.len()),
+            roomy: rng.percent(50),
         }
+    }
+
+    /// Whether the call takes a solution sheet.
+    pub fn solved(&self) -> bool {
+        self.lists.iter().any(|list| list.1.is_solution())
+    }
+
+    /// A solution sheet in order and outputs that the result fits, for an accepted network.
+    pub fn draw_sound(&self, site: &Site, rng: &mut Rng) -> Args {
+        let mut sheet = |length| solutions::sound(rng, site, length == Length::SolutionFront);
+        let lists = self.lists.iter().map(|list| bytes_of_doubles(&sheet(list.1))).collect();
+        let longer = |rng: &mut Rng| if rng.percent(30) { rng.between(1, 5) as i32 } else { 0 };
+        let lends = self.sheets.iter().map(|_| Lend { words: longer(rng), leftover: 0 }).collect();
+        Args { lists, lends, ..Args::default() }
     }
 
     /// Numbers from 1 to 5 that hold of the network and the arguments.
@@ -380,10 +495,15 @@ impl Op {
         if let Some(count) = self.index {
             held = held.and(Held::when(5, args.index >= site.shape().count(count)));
         }
-        for (list, &(_, count)) in args.lists.iter().zip(self.lists) {
-            let broken = |place| !within(double(list, place), SHEET_LIMIT);
-            held = held.and(Held::when(1, list.len() != 8 * site.shape().count(count)));
-            held = held.and(Held::when(3, (0..list.len() / 8).any(broken)));
+        for (list, &(_, length)) in args.lists.iter().zip(self.lists) {
+            if let Length::Of(count) = length {
+                let broken = |place| !within(double(list, place), SHEET_LIMIT);
+                held = held.and(Held::when(1, list.len() != 8 * site.shape().count(count)));
+                held = held.and(Held::when(3, (0..list.len() / 8).any(broken)));
+            } else {
+                let looked_at = length.looked_at(&site.shape().blocks);
+                held = held.and(paper::solution_held(list, site.shape(), looked_at));
+            }
         }
         if self.power {
             let power = f64::from_bits(args.bits);
@@ -498,10 +618,18 @@ fn expect(op: &Op, site: &Site, args: &Args) -> Expected {
     };
     if held.lowest() > 0 {
         let need = (op.need)(site);
-        let needs = vec![need.unwrap_or(OPEN_RESULT); op.sheets.len()];
+        let room = |shape: &Shape| if args.roomy { shape.matrix_most() } else { OPEN_RESULT };
+        let open = site.shape.as_ref().filter(|_| op.solved()).map_or(OPEN_RESULT, room);
+        let needs = vec![need.unwrap_or(open); op.sheets.len()];
         let sheets = lent(&needs);
-        let known = site.shape.is_some() && need.is_some();
-        let held = if known { held.and(short(&sheets, &needs)) } else { held };
+        let held = match &site.shape {
+            Some(_) if need.is_some() => held.and(short(&sheets, &needs)),
+            Some(shape) if op.solved() => {
+                let least = vec![shape.matrix_least(); op.sheets.len()];
+                held.and(short(&sheets, &least))
+            }
+            _ => held,
+        };
         return Expected { number: held.lowest(), count: 0, fronts: vec![], sheets, held };
     }
     let answer = (op.answer)(site, args);

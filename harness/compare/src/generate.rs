@@ -71,6 +71,8 @@ const MEDIUM: [usize; 7] = [40, 80, 40, 16, 100, 30, 100];
 const LIMIT_TURN: u64 = 250;
 /// One of this many cases takes all counts to their limits.
 const FULL_TURN: u64 = 4000;
+/// One of this many networks for solution sheets has all counts at their limits.
+const LARGEST_TURN: u64 = 80;
 
 /// Sizes of the case with this serial number: mostly small, each limit in its turn.
 pub fn sizes(rng: &mut Rng, serial: u64) -> Sizes {
@@ -85,6 +87,26 @@ pub fn sizes(rng: &mut Rng, serial: u64) -> Sizes {
             sizes.set(count, count.limit());
         }
     }
+    sizes.fit();
+    sizes
+}
+
+/// Sizes of a network whose sheets lean on the thresholds: small, or all at their limits.
+pub fn solved_sizes(rng: &mut Rng, serial: u64) -> Sizes {
+    let mut sizes = draw_sizes(rng);
+    if serial % LARGEST_TURN == LARGEST_TURN / 2 {
+        for count in Count::ALL {
+            sizes.set(count, count.limit());
+        }
+    }
+    sizes.fit();
+    sizes
+}
+
+/// Sizes at which a network and its matrix can be read by eye.
+pub fn small_sizes(rng: &mut Rng) -> Sizes {
+    let counts = [4, 4, 3, 2, 3, 2, 4].map(|most| rng.below(most + 1));
+    let mut sizes = Sizes { counts, flow_terms: 0, generation_terms: 0 };
     sizes.fit();
     sizes
 }

@@ -10,8 +10,11 @@ mod marks;
 mod mock;
 mod paper;
 mod random;
+mod record;
 mod report;
 mod shrink;
+mod solutions;
+mod states;
 #[cfg(target_os = "linux")]
 mod watch;
 
@@ -19,20 +22,24 @@ use std::process::ExitCode;
 use std::time::{Duration, Instant};
 
 use abi::Memory;
-use calls::{check, Op, Site, OPS};
+use calls::{check, Args, Lend, Op, Site, OPS};
 use damage::{Damage, Place};
 use marks::mark_network;
-use paper::{bytes_of_doubles, bytes_of_words, Lent};
+use paper::{bytes_of_doubles, bytes_of_words, Count, Lent};
 use random::Rng;
-use report::{Coverage, Mismatch, FLOOR};
+use report::{Coverage, Mismatch, FLOOR, SHEET_FLOOR};
 
 const HELP: &str = "\
 compare: runs the exports beside the original Rust on generated networks
 
-  --cases N     at least N good and N damaged networks (200000)
+  --cases N     at least N good and N damaged networks, and half as many good ones on which
+                only the calls with a solution sheet run, near their thresholds (200000)
   --seconds N   stop after N seconds, which is a failure before --cases is reached (240)
   --seed S      another seed gives other networks (1)
   --quick       neither the time bound nor the coverage floors count as failures
+  --record N FILE
+                compares nothing, but writes N small networks with solution sheets and the
+                original's matrix of each to FILE, one a line
   --help        this text
 
 Prints what was covered and one summary line. Exit code 0 if every call did what it must.";
@@ -42,10 +49,11 @@ struct Options {
     seconds: u64,
     seed: u64,
     quick: bool,
+    record: Option<(u64, String)>,
 }
 
 fn options() -> Result<Option<Options>, String> {
-    let mut options = Options { cases: 200_000, seconds: 240, seed: 1, quick: false };
+    let mut options = Options { cases: 200_000, seconds: 240, seed: 1, quick: false, record: None };
     let mut words = std::env::args().skip(1);
     while let Some(option) = words.next() {
         let mut number = || -> Result<u64, String> {
@@ -57,6 +65,11 @@ fn options() -> Result<Option<Options>, String> {
             "--seconds" => options.seconds = number()?,
             "--seed" => options.seed = number()?,
             "--quick" => options.quick = true,
+            "--record" => {
+                let count = number()?;
+                let file = words.next().ok_or("--record needs a file")?;
+                options.record = Some((count, file));
+            }
             "--help" | "-h" => return Ok(None),
             _ => return Err(format!("unknown option {}", option)),
         }
@@ -67,6 +80,9 @@ fn options() -> Result<Option<Options>, String> {
 /// After the first mismatch, so many more networks are searched for a smaller one.
 const FURTHER: u64 = 4_000;
 
+/// Numbers of cases with a solution sheet alone start here.
+const SOLVED_CASES: u64 = 1 << 40;
+
 struct Run {
     seed: u64,
     memory: Memory,
@@ -75,6 +91,9 @@ struct Run {
     pairs: Vec<(usize, usize)>,
     good: u64,
     damaged: u64,
+    solved: u64,
+    largest: u64,
+    damaged_sheets: u64,
     calls: u64,
     mismatches: u64,
     smallest: Option<Mismatch>,
@@ -93,6 +112,9 @@ impl Run {
             pairs,
             good: 0,
             damaged: 0,
+            solved: 0,
+            largest: 0,
+            damaged_sheets: 0,
             calls: 0,
             mismatches: 0,
             smallest: None,
@@ -135,6 +157,29 @@ impl Run {
         }
     }
 
+    /// A good network whose readings lie near the thresholds of snapping: each call that
+    /// takes a solution sheet, once with all in order and half of the time with anything.
+    fn one_solved(&mut self, serial: u64) {
+        let case = SOLVED_CASES + serial;
+        let mut rng = self.case(case);
+        let sizes = generate::solved_sizes(&mut rng, serial);
+        let mut parts = generate::parts(&mut rng, &sizes);
+        solutions::tune(&mut rng, &mut parts);
+        let site = Site::new(parts.encode());
+        assert!(site.held.lowest() == 0, "case {}: a good network is accepted", case);
+        self.solved += 1;
+        self.largest += u64::from(Count::ALL.iter().all(|&c| parts.count(c) == c.limit()));
+        self.memory.fill_network(&site.lent);
+        for (place, op) in OPS.iter().enumerate().filter(|(_, op)| op.solved()) {
+            let args = op.draw_sound(&site, &mut rng);
+            self.call(place, &site, &args, case, &mut rng);
+            if rng.percent(50) {
+                let args = op.draw(&site, &mut rng);
+                self.call(place, &site, &args, case, &mut rng);
+            }
+        }
+    }
+
     fn case(&self, case: u64) -> Rng {
         #[cfg(target_os = "linux")]
         watch::note_case(case);
@@ -159,7 +204,7 @@ impl Run {
         Site::new(lent)
     }
 
-    /// Makes every call on a network.
+    /// Makes every call on a network, those with a solution sheet on half of the damaged ones.
     fn visit(&mut self, site: &Site, case: u64, rng: &mut Rng, rounds: fn(&Op) -> usize) {
         if site.held.lowest() == 0 {
             self.good += 1;
@@ -168,15 +213,22 @@ impl Run {
         }
         mark_network(site, &mut self.cover);
         self.memory.fill_network(&site.lent);
-        for (place, op) in OPS.iter().enumerate() {
+        let with_sheet = site.held.lowest() == 0 || rng.percent(50);
+        self.damaged_sheets += u64::from(with_sheet && site.held.lowest() > 0);
+        let calls = OPS.iter().enumerate().filter(|(_, op)| with_sheet || !op.solved());
+        for (place, op) in calls {
             for _ in 0..rounds(op) {
                 let args = op.draw(site, rng);
-                let cover = Some(&mut self.cover);
-                self.calls += 1;
-                if let Some(found) = check(place, site, &args, &mut self.memory, rng, cover) {
-                    self.keep(found, case);
-                }
+                self.call(place, site, &args, case, rng);
             }
+        }
+    }
+
+    fn call(&mut self, place: usize, site: &Site, args: &Args, case: u64, rng: &mut Rng) {
+        let cover = Some(&mut self.cover);
+        self.calls += 1;
+        if let Some(found) = check(place, site, args, &mut self.memory, rng, cover) {
+            self.keep(found, case);
         }
     }
 
@@ -188,9 +240,9 @@ impl Run {
         }
     }
 
-    /// The paper's bench network and the network without anything.
+    /// The paper's bench network with its sheet, and the network without anything.
     fn fixed(&mut self) {
-        let (bench, _) = oracle::bench_network();
+        let (bench, solution) = oracle::bench_network();
         let bench = Lent {
             wiring: bytes_of_words(&bench.wiring),
             readings: bytes_of_doubles(&bench.readings),
@@ -202,11 +254,17 @@ impl Run {
             readings: bytes_of_doubles(&[100.0]),
             ..Lent::default()
         };
-        for lent in [bench, empty] {
+        for (lent, solution) in [(bench, &solution[..]), (empty, &[0.0])] {
             let site = Site::new(lent);
             assert!(site.held.lowest() == 0, "a fixed network is accepted");
             let mut rng = Rng::new(self.seed, u64::MAX - 1);
             self.visit(&site, 0, &mut rng, |_| 20);
+            for (place, op) in OPS.iter().enumerate().filter(|(_, op)| op.solved()) {
+                let lists = vec![bytes_of_doubles(solution)];
+                let lends = vec![Lend::default(); op.sheets.len()];
+                let args = Args { lists, lends, ..Args::default() };
+                self.call(place, &site, &args, 0, &mut rng);
+            }
         }
     }
 }
@@ -226,6 +284,9 @@ fn run(options: &Options, run: &mut Run) -> bool {
         }
         run.one_good(serial);
         run.one_damaged(serial);
+        if serial % 2 == 0 {
+            run.one_solved(serial / 2);
+        }
         serial += 1;
         if run.mismatches > 0 && last == u64::MAX {
             last = serial + FURTHER;
@@ -246,7 +307,10 @@ fn compare(options: &Options) -> bool {
         shrink::shrink(mismatch, &mut tally.memory, options.seed).print();
     }
     if low > 0 {
-        println!("coverage: {} rows below the floor of {}", low, FLOOR);
+        println!(
+            "coverage: {} rows below the floor of {} ({} for solution sheets)",
+            low, FLOOR, SHEET_FLOOR
+        );
     }
     if !in_time {
         println!("stopped by the time bound of {} seconds", options.seconds);
@@ -255,6 +319,14 @@ fn compare(options: &Options) -> bool {
         "time: {:.1} s, {:.2} us a call with its check",
         time.as_secs_f64(),
         time.as_secs_f64() * 1e6 / tally.calls.max(1) as f64
+    );
+    println!(
+        "solution sheets: on {} accepted networks, of which {} near the thresholds and {} of \
+         these with all counts at their limits; on {} damaged ones",
+        tally.good + tally.solved,
+        tally.solved,
+        tally.largest,
+        tally.damaged_sheets
     );
     println!(
         "compare: {} good and {} damaged networks, {} calls, {} mismatches",
@@ -278,6 +350,15 @@ fn main() -> ExitCode {
     if let Err(error) = oracle::self_test() {
         println!("compare: the oracle fails its own test: {}", error);
         return ExitCode::FAILURE;
+    }
+    if let Some((count, file)) = &options.record {
+        return match record::write(options.seed, *count, file) {
+            Ok(()) => ExitCode::SUCCESS,
+            Err(error) => {
+                eprintln!("compare: {}: {}", file, error);
+                ExitCode::from(2)
+            }
+        };
     }
     if compare(&options) {
         ExitCode::SUCCESS

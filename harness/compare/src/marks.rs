@@ -1,11 +1,12 @@
 //! Tells what a network and a call cover, for the table at the end of a run.
 
-use crate::calls::{Args, Expected, Front, Lend, Op, Site, OPS};
+use crate::calls::{Args, Expected, Front, Lend, Length, Op, Site, OPS};
 use crate::generate::{above, below};
 use crate::paper::{
     self, tolerance, within, word, Count, Field, Wire, ALLOW_SHED, READING_LIMIT, SHEET_LIMIT,
 };
 use crate::report::{Coverage, Mark};
+use crate::states::{mark_outputs, mark_solution};
 
 /// What is special about a call.
 pub fn mark_call(
@@ -25,6 +26,10 @@ pub fn mark_call(
     mark_sheets(op, args, expected, cover);
     if let (Some(count), Some(shape)) = (op.index, &site.shape) {
         mark_index(args.index, shape.count(count), expected.number, cover);
+    }
+    if op.solved() {
+        mark_solution(place, site, &args.lists[0], expected.number, cover);
+        mark_outputs(place, site, args, expected, cover);
     }
     match op.name {
         "shed_cap" if expected.number == 0 => mark_shed_cap(site, args.index, cover),
@@ -146,7 +151,7 @@ fn mark_evaluate(op: &Op, site: &Site, args: &Args, number: u8, cover: &mut Cove
             Mark::DispatchRagged,
         ],
     ];
-    for ((list, &(_, count)), marks) in args.lists.iter().zip(op.lists).zip(marks) {
+    for ((list, &(_, length)), marks) in args.lists.iter().zip(op.lists).zip(marks) {
         let [at, just_above, nan, infinite, short, long, ragged] = marks;
         let values = paper::doubles(list);
         let any = |test: fn(f64) -> bool| values.iter().any(|&x| test(x));
@@ -154,7 +159,11 @@ fn mark_evaluate(op: &Op, site: &Site, args: &Args, number: u8, cover: &mut Cove
         cover.hit_if(just_above, number == 3 && any(|x| x.abs() == above(SHEET_LIMIT)));
         cover.hit_if(nan, number == 3 && any(f64::is_nan));
         cover.hit_if(infinite, number == 3 && any(f64::is_infinite));
-        if let Some(length) = site.count(count) {
+        let length = match length {
+            Length::Of(count) => site.count(count),
+            _ => None,
+        };
+        if let Some(length) = length {
             cover.hit_if(short, number == 1 && list.len() + 8 == 8 * length);
             cover.hit_if(long, number == 1 && list.len() == 8 * length + 8);
             cover.hit_if(ragged, number == 1 && list.len() % 8 != 0);

@@ -312,3 +312,67 @@ export!(capi_susceptance_coo(
     let sums: Vec<f64> = cells.into_values().collect();
     put(&sums, values, values_length)
 }));
+
+/// A tested solution sheet with the original to answer for it: the values of the four calls
+/// below come from there, their numbers from here.
+fn solved(
+    lent: [&[u8]; 4],
+    site: Result<Site, u64>,
+    sheet: &[u8],
+    exempt: bool,
+) -> Result<(oracle::Oracle, Vec<f64>), u64> {
+    if let Err(1) = site {
+        return Err(1);
+    }
+    let words = f64s(sheet).ok_or(1u64)?;
+    let w = u32s(lent[0]).unwrap_or_default();
+    let c: Vec<usize> = w[..7].iter().map(|&count| count as usize).collect();
+    let (n, m, k, s, q) = (c[0], c[1], c[2], c[4], c[5]);
+    let piecewise = w[9 + 2 * m + k..][..k].iter().filter(|&&own| own != 0).count();
+    if words.len() != 5 * (n + m) + 3 * k + piecewise + s + 2 * q + 1 {
+        return Err(1);
+    }
+    site?;
+    let tail = if exempt { q + 1 } else { 0 };
+    if words[..words.len() - tail].iter().any(|&x| bad(x, 1e15)) {
+        return Err(3);
+    }
+    let oracle = oracle::Oracle::new(&oracle::Network {
+        wiring: w,
+        readings: f64s(lent[1]).unwrap_or_default(),
+        term_index: u32s(lent[2]).unwrap_or_default(),
+        term_coefficient: f64s(lent[3]).unwrap_or_default(),
+    });
+    Ok((oracle, words))
+}
+
+export!(capi_snap(sheet: Pointer, sheet_length: usize, out: *mut u8, length: usize) lent, site =>
+    solved(lent, site, from_raw_parts(sheet, sheet_length), false)
+        .map(|(oracle, words)| put(&oracle.snap(&words), out, length)));
+
+export!(capi_snap_linear(sheet: Pointer, sheet_length: usize, out: *mut u8, length: usize) lent, site =>
+    solved(lent, site, from_raw_parts(sheet, sheet_length), false)
+        .map(|(oracle, words)| put(&oracle.snap_linear(&words).concat(), out, length)));
+
+export!(capi_nu_flow_values(sheet: Pointer, sheet_length: usize, out: *mut u8, length: usize) lent, site =>
+    solved(lent, site, from_raw_parts(sheet, sheet_length), false)
+        .map(|(oracle, words)| put(&oracle.nu_flow_values(&words), out, length)));
+
+export!(capi_kkt_triplets(
+    sheet: Pointer, sheet_length: usize, rows: *mut u8, rows_length: usize,
+    cols: *mut u8, cols_length: usize, values: *mut u8, values_length: usize
+) lent, site =>
+    solved(lent, site, from_raw_parts(sheet, sheet_length), true).map(|(oracle, words)| {
+        let list = oracle.jacobian(&words);
+        let room = (rows_length / 4).min(cols_length / 4).min(values_length / 8);
+        if room < list.len() {
+            return 7;
+        }
+        for (place, triplet) in list.iter().enumerate() {
+            let (row, col) = ((triplet.0 as u32).to_le_bytes(), (triplet.1 as u32).to_le_bytes());
+            std::ptr::copy_nonoverlapping(row.as_ptr(), rows.add(4 * place), 4);
+            std::ptr::copy_nonoverlapping(col.as_ptr(), cols.add(4 * place), 4);
+        }
+        let list: Vec<f64> = list.iter().map(|triplet| triplet.2).collect();
+        put(&list, values, values_length)
+    }));

@@ -215,6 +215,130 @@ impl Field {
     }
 }
 
+/// The blocks of a solution sheet, in order; the objective is a block of one word.
+#[derive(Clone, Copy, Debug, PartialEq, Eq)]
+pub enum Block {
+    Va,
+    Pg,
+    F,
+    Psh,
+    NuBal,
+    LamUb,
+    LamLb,
+    RhoUb,
+    RhoLb,
+    MuUb,
+    MuLb,
+    GammaUb,
+    GammaLb,
+    Epigraphs,
+    SegmentDuals,
+    LinearDuals,
+    LinearValues,
+    Objective,
+}
+
+pub const BLOCKS: usize = 18;
+
+impl Block {
+    pub const ALL: [Block; BLOCKS] = [
+        Block::Va,
+        Block::Pg,
+        Block::F,
+        Block::Psh,
+        Block::NuBal,
+        Block::LamUb,
+        Block::LamLb,
+        Block::RhoUb,
+        Block::RhoLb,
+        Block::MuUb,
+        Block::MuLb,
+        Block::GammaUb,
+        Block::GammaLb,
+        Block::Epigraphs,
+        Block::SegmentDuals,
+        Block::LinearDuals,
+        Block::LinearValues,
+        Block::Objective,
+    ];
+
+    /// The count that is the block's length; none for epigraphs, one a piecewise
+    /// generator, and for the objective.
+    pub fn length(self) -> Option<Count> {
+        match self {
+            Block::Va | Block::Psh | Block::NuBal | Block::MuUb | Block::MuLb => Some(Count::Buses),
+            Block::Pg | Block::RhoUb | Block::RhoLb => Some(Count::Generators),
+            Block::F | Block::LamUb | Block::LamLb | Block::GammaUb | Block::GammaLb => {
+                Some(Count::Branches)
+            }
+            Block::SegmentDuals => Some(Count::Segments),
+            Block::LinearDuals | Block::LinearValues => Some(Count::Rows),
+            Block::Epigraphs | Block::Objective => None,
+        }
+    }
+
+    pub fn name(self) -> &'static str {
+        match self {
+            Block::Va => "va",
+            Block::Pg => "pg",
+            Block::F => "f",
+            Block::Psh => "psh",
+            Block::NuBal => "nu_bal",
+            Block::LamUb => "lam_ub",
+            Block::LamLb => "lam_lb",
+            Block::RhoUb => "rho_ub",
+            Block::RhoLb => "rho_lb",
+            Block::MuUb => "mu_ub",
+            Block::MuLb => "mu_lb",
+            Block::GammaUb => "gamma_ub",
+            Block::GammaLb => "gamma_lb",
+            Block::Epigraphs => "epigraphs",
+            Block::SegmentDuals => "segment duals",
+            Block::LinearDuals => "linear duals",
+            Block::LinearValues => "linear values",
+            Block::Objective => "objective",
+        }
+    }
+}
+
+/// Where each block of a solution sheet begins, and where the sheet ends.
+#[derive(Clone, Debug, Default)]
+pub struct Blocks {
+    starts: [usize; BLOCKS + 1],
+}
+
+impl Blocks {
+    /// From the seven counts and the number of piecewise generators.
+    pub fn new(counts: &[usize; 7], piecewise: usize) -> Blocks {
+        let mut blocks = Blocks::default();
+        let mut start = 0;
+        for block in Block::ALL {
+            blocks.starts[block as usize] = start;
+            start += match block.length() {
+                Some(count) => counts[count as usize],
+                None if block == Block::Epigraphs => piecewise,
+                None => 1,
+            };
+        }
+        blocks.starts[BLOCKS] = start;
+        blocks
+    }
+
+    pub fn range(&self, block: Block) -> std::ops::Range<usize> {
+        self.starts[block as usize]..self.starts[block as usize + 1]
+    }
+
+    /// Words of the whole sheet.
+    pub fn length(&self) -> usize {
+        self.starts[BLOCKS]
+    }
+
+    /// Words before the last q + 1, which the matrix leaves alone.
+    pub fn front(&self) -> usize {
+        self.starts[Block::LinearValues as usize]
+    }
+}
+
 /// Greatest magnitude of network readings, coefficients and raw readings.
 pub const READING_LIMIT: f64 = 1e12;
 /// Greatest magnitude of sheet readings.
@@ -329,6 +453,8 @@ pub struct Shape {
     counts: [usize; 7],
     wire_starts: [usize; WIRES],
     field_starts: [usize; FIELDS],
+    /// The solution sheet's.
+    pub blocks: Blocks,
 }
 
 impl Shape {
@@ -346,8 +472,24 @@ impl Shape {
         start..start + field.length().map_or(1, |count| self.count(count))
     }
 
+    /// "The list has at most 26m + 10n + 9k + 5S + 2R + 4T + 2q triplets".
+    pub fn matrix_most(&self) -> usize {
+        let [n, m, k, r, s, q, t] = self.counts;
+        26 * m + 10 * n + 9 * k + 5 * s + 2 * r + 4 * t + 2 * q
+    }
+
+    /// A bus has four triplets whatever its readings: in its psh row and column.
+    pub fn matrix_least(&self) -> usize {
+        4 * self.counts[Count::Buses as usize]
+    }
+
     fn new(counts: [usize; 7]) -> Shape {
-        let mut shape = Shape { counts, wire_starts: [0; WIRES], field_starts: [0; FIELDS] };
+        let mut shape = Shape {
+            counts,
+            wire_starts: [0; WIRES],
+            field_starts: [0; FIELDS],
+            blocks: Blocks::default(),
+        };
         let mut start = HEAD;
         for wire in Wire::ALL {
             shape.wire_starts[wire as usize] = start;
@@ -409,7 +551,7 @@ pub fn shape(lent: &Lent) -> Option<Shape> {
     for count in Count::ALL {
         counts[count as usize] = written[count as usize] as usize;
     }
-    let shape = Shape::new(counts);
+    let mut shape = Shape::new(counts);
     let total = |wire: Wire| -> u64 {
         shape.wire_range(wire).map(|place| u64::from(word(&lent.wiring, place))).sum()
     };
@@ -418,7 +560,19 @@ pub fn shape(lent: &Lent) -> Option<Shape> {
     if segments != written[Count::Segments as usize] || terms != written[Count::Terms as usize] {
         return None;
     }
+    let own = shape.wire_range(Wire::Segments).map(|place| word(&lent.wiring, place));
+    let piecewise = own.filter(|&segments| segments > 0).count();
+    shape.blocks = Blocks::new(&counts, piecewise);
     Some(shape)
+}
+
+/// Numbers 1 and 3 of a solution sheet: "an input slice of wrong length", "a reading .. not
+/// finite or outside its limits". Only the words before `looked_at` are looked at.
+pub fn solution_held(sheet: &[u8], shape: &Shape, looked_at: usize) -> Held {
+    let words = (sheet.len() / 8).min(looked_at);
+    let broken = |place| !within(double(sheet, place), SHEET_LIMIT);
+    let one = Held::when(1, sheet.len() != 8 * shape.blocks.length());
+    one.and(Held::when(3, (0..words).any(broken)))
 }
 
 /// Number 2: "index not below its count; flag, mask or objective outside its values".

@@ -1,23 +1,29 @@
 //! What a run has met: tallies with a floor for each, and the smallest mismatch.
 
-use crate::calls::{Args, Op, OPS};
+use crate::calls::{Args, Length, Op, OPS};
 use crate::damage::{Damage, Place};
-use crate::paper::{Count, Lent, SLICE_NAMES};
+use crate::paper::{Block, Count, Lent, BLOCKS, SLICE_NAMES};
+use crate::states;
 
 /// Each row of the coverage table is met at least this often.
 pub const FLOOR: u64 = 500;
+/// Each row about solution sheets is met at least this often.
+pub const SHEET_FLOOR: u64 = 1000;
 
 macro_rules! marks {
-    ($($title:literal { $($mark:ident => $name:literal,)* })*) => {
-        /// Things that a run must have met.
+    ($(#[$doc:meta])* $all:ident of $name_of_all:ident:
+        $($title:literal { $($mark:ident => $name:literal,)* })*) => {
+        $(#[$doc])*
         #[derive(Clone, Copy, Debug, PartialEq, Eq)]
-        pub enum Mark { $($($mark,)*)* }
+        pub enum $name_of_all { $($($mark,)*)* }
 
-        const MARKS: &[(&str, &str)] = &[$($(($title, $name),)*)*];
+        const $all: &[(&str, &str)] = &[$($(($title, $name),)*)*];
     };
 }
 
 marks! {
+    /// Things that a run must have met.
+    MARKS of Mark:
     "good networks" {
         SelfLoop => "branch from a bus to itself",
         ParallelBranches => "parallel branches",
@@ -125,6 +131,133 @@ marks! {
     }
 }
 
+marks! {
+    /// Things that a run must have met in each call that takes a solution sheet and that
+    /// they matter to. A threshold counts where its side shows in the result.
+    SHEET_MARKS of SheetMark:
+    "networks" {
+        SheetSelfLoop => "branch from a bus to itself",
+        SheetParallel => "parallel branches",
+        SheetRepeatedReference => "reference listed twice",
+        SheetSeveralReferences => "several references",
+        SheetLargest => "all counts at their limits",
+        SheetNoBus => "no bus",
+    }
+    "buses" {
+        BusFixed => "fixed",
+        BusAtZero => "at zero",
+        BusAtCap => "at cap",
+        BusBetween => "between",
+        BusFixedFolds => "fixed, mu_ub not zero",
+        CapJustBelow => "cap just below the tolerance",
+        CapAt => "cap at the tolerance",
+        CapJustAbove => "cap just above the tolerance",
+        ShedJustBelow => "shed just below the tolerance",
+        ShedAt => "shed at the tolerance",
+        ShedJustAbove => "shed just above the tolerance",
+        RoomJustBelow => "cap less shed just below the tolerance",
+        RoomAt => "cap less shed at the tolerance",
+        RoomJustAbove => "cap less shed just above the tolerance",
+    }
+    "upper angle limits" {
+        AngmaxSlack => "slack",
+        AngmaxNotPositive => "not slack, dual not positive",
+        AngmaxKept => "not slack, dual kept",
+        AngmaxJustBelow => "slack just below the tolerance, dual positive",
+        AngmaxAt => "slack at the tolerance, dual positive",
+        AngmaxJustAbove => "slack just above the tolerance, dual positive",
+        AngmaxPlusZero => "not slack, dual +0",
+        AngmaxMinusZero => "not slack, dual -0",
+        AngmaxNegative => "not slack, dual negative",
+    }
+    "lower angle limits" {
+        AngminSlack => "slack",
+        AngminNotPositive => "not slack, dual not positive",
+        AngminKept => "not slack, dual kept",
+        AngminJustBelow => "slack just below the tolerance, dual positive",
+        AngminAt => "slack at the tolerance, dual positive",
+        AngminJustAbove => "slack just above the tolerance, dual positive",
+        AngminPlusZero => "not slack, dual +0",
+        AngminMinusZero => "not slack, dual -0",
+        AngminNegative => "not slack, dual negative",
+    }
+    "segments" {
+        SegmentSlack => "slack",
+        SegmentNotPositive => "not slack, dual not positive",
+        SegmentKept => "not slack, dual kept",
+        SegmentJustBelow => "slack just below the tolerance, dual positive",
+        SegmentAt => "slack at the tolerance, dual positive",
+        SegmentJustAbove => "slack just above the tolerance, dual positive",
+        SegmentPlusZero => "not slack, dual +0",
+        SegmentMinusZero => "not slack, dual -0",
+        SegmentNegative => "not slack, dual negative",
+    }
+    "linear rows" {
+        LinearNone => "no limit",
+        LinearUpper => "upper",
+        LinearLower => "lower",
+        LinearBoth => "both",
+        LinearEquality => "equality",
+        LinearEqualityDual => "equality with flow terms, dual not zero",
+    }
+    "upper row limits" {
+        UpperSlack => "slack",
+        UpperNotPositive => "not slack, dual not positive",
+        UpperKept => "not slack, dual kept",
+        UpperJustBelow => "slack just below the tolerance, dual positive",
+        UpperAt => "slack at the tolerance, dual positive",
+        UpperJustAbove => "slack just above the tolerance, dual positive",
+        UpperPlusZero => "not slack, dual +0",
+        UpperMinusZero => "not slack, dual -0",
+        UpperNegative => "not slack, dual negative",
+    }
+    "lower row limits" {
+        LowerSlack => "slack",
+        LowerNotPositive => "not slack, minus the dual not positive",
+        LowerKept => "not slack, minus the dual kept",
+        LowerJustBelow => "slack just below the tolerance, dual negative",
+        LowerAt => "slack at the tolerance, dual negative",
+        LowerJustAbove => "slack just above the tolerance, dual negative",
+        LowerPlusZero => "not slack, minus the dual +0",
+        LowerMinusZero => "not slack, minus the dual -0",
+        LowerNegative => "not slack, minus the dual negative",
+    }
+    "solution sheets" {
+        WordAtPlus => "word at +10^15: accepted",
+        WordAtMinus => "word at -10^15: accepted",
+        WordAbovePlus => "word just above +10^15: refused",
+        WordBelowMinus => "word just below -10^15: refused",
+        WordNan => "word NaN: refused",
+        WordInfinite => "word infinite: refused",
+        SolutionShort => "one word short: refused",
+        SolutionLong => "one word long: refused",
+        SolutionRagged => "not whole words: refused",
+        SolutionEmpty => "empty: refused",
+    }
+    "outputs" {
+        OutExact => "exactly full, not empty: accepted",
+        OutLonger => "longer than the result: accepted",
+        OutLeftover => "leftover bytes after the result: accepted",
+        OutOneShort => "one word short: refused",
+        OutShortLeftover => "one word short but for some bytes: refused",
+        OutEmpty => "empty, result not: refused",
+    }
+    "lists" {
+        OutRowsShort => "only the rows short: refused",
+        OutColumnsShort => "only the columns short: refused",
+        OutValuesShort => "only the values short: refused",
+        OutRoomy => "room for any list: refused for the sheet",
+    }
+    "exempt words" {
+        ExemptNan => "linear value NaN: accepted",
+        ExemptInfinite => "linear value infinite: accepted",
+        ExemptAbove => "linear value finite, above 10^15: accepted",
+        ExemptObjectiveNan => "objective NaN: accepted",
+        ExemptObjectiveInfinite => "objective infinite: accepted",
+        ExemptObjectiveAbove => "objective finite, above 10^15: accepted",
+    }
+}
+
 const MARK_COUNT: usize = MARKS.len();
 
 const LEVELS: [&str; 3] = ["at 0", "at 1", "at its limit"];
@@ -138,6 +271,10 @@ struct DamageTally {
 
 pub struct Coverage {
     marks: [u64; MARK_COUNT],
+    /// For each call, what its solution sheets were.
+    sheets: Vec<Vec<u64>>,
+    /// For each call, refusals for a broken word, by its block.
+    blocks: Vec<[u64; BLOCKS]>,
     levels: [[u64; 3]; 7],
     damages: Vec<DamageTally>,
     /// How often each pair of damages was made.
@@ -155,12 +292,15 @@ struct Row {
     /// For a damage, the cases that have it together with another.
     paired: Option<u64>,
     note: String,
+    floor: u64,
 }
 
 impl Coverage {
     pub fn new(damages: usize) -> Coverage {
         Coverage {
             marks: [0; MARK_COUNT],
+            sheets: vec![vec![0; SHEET_MARKS.len()]; OPS.len()],
+            blocks: vec![[0; BLOCKS]; OPS.len()],
             levels: [[0; 3]; 7],
             damages: vec![DamageTally::default(); damages],
             pairs: vec![0; damages * (damages - 1) / 2],
@@ -177,6 +317,14 @@ impl Coverage {
         if met {
             self.hit(mark);
         }
+    }
+
+    pub fn hit_sheet(&mut self, op: usize, mark: SheetMark, met: bool) {
+        self.sheets[op][mark as usize] += u64::from(met);
+    }
+
+    pub fn hit_block(&mut self, op: usize, block: Block) {
+        self.blocks[op][block as usize] += 1;
     }
 
     pub fn hit_count(&mut self, count: Count, value: usize) {
@@ -220,6 +368,7 @@ impl Coverage {
                 hits: first + middle + last,
                 paired: Some(tally.paired),
                 note,
+                floor: FLOOR,
             });
         }
         for count in Count::ALL {
@@ -232,7 +381,31 @@ impl Coverage {
             rows.push(row(title, name.to_string(), hits));
         }
         self.answer_rows(&mut rows);
+        self.sheet_rows(&mut rows);
         rows
+    }
+
+    fn sheet_rows(&self, rows: &mut Vec<Row>) {
+        let solved = || OPS.iter().enumerate().filter(|(_, op)| op.solved());
+        for (mark, (title, name)) in SHEET_MARKS.iter().enumerate() {
+            for (place, op) in solved().filter(|(_, op)| states::matters(op.name, title)) {
+                let hits = self.sheets[place][mark];
+                let title = format!("calls on a solution sheet: {}", title);
+                let row = row(&title, format!("{}: {}", op.name, name), hits);
+                rows.push(Row { floor: SHEET_FLOOR, ..row });
+            }
+        }
+        for (place, op) in solved() {
+            for block in Block::ALL {
+                let exempt = [Block::LinearValues, Block::Objective].contains(&block);
+                if exempt && op.lists[0].1 == Length::SolutionFront {
+                    continue;
+                }
+                let name = format!("{}: word of {} broken", op.name, block.name());
+                let row = row("solution sheets refused", name, self.blocks[place][block as usize]);
+                rows.push(Row { floor: SHEET_FLOOR, ..row });
+            }
+        }
     }
 
     fn answer_rows(&self, rows: &mut Vec<Row>) {
@@ -261,11 +434,11 @@ impl Coverage {
                 println!("{}", row.title);
                 title = row.title.clone();
             }
-            let below = row.hits < FLOOR || row.paired.map_or(false, |hits| hits < FLOOR);
+            let below = row.hits < row.floor || row.paired.map_or(false, |hits| hits < row.floor);
             low += usize::from(below);
             let warning = if below { "  BELOW THE FLOOR" } else { "" };
             let paired = row.paired.map_or(String::new(), |hits| hits.to_string());
-            let line = format!("  {:<56} {:>8} {:>6}  {}", row.name, row.hits, paired, row.note);
+            let line = format!("  {:<64} {:>8} {:>6}  {}", row.name, row.hits, paired, row.note);
             println!("{}{}", line.trim_end(), warning);
         }
         let least = self.pairs.iter().min().copied().unwrap_or(0);
@@ -277,7 +450,7 @@ impl Coverage {
 }
 
 fn row(title: &str, name: String, hits: u64) -> Row {
-    Row { title: title.to_string(), name, hits, paired: None, note: String::new() }
+    Row { title: title.to_string(), name, hits, paired: None, note: String::new(), floor: FLOOR }
 }
 
 /// A call that did not do what the paper and the original Rust say.

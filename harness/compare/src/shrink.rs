@@ -3,8 +3,8 @@
 use std::time::{Duration, Instant};
 
 use crate::abi::Memory;
-use crate::calls::{check, Args, Lend, Site, OPS};
-use crate::paper::{Count, Field, Lent, Parts, Wire};
+use crate::calls::{check, Args, Lend, Length, Site, OPS};
+use crate::paper::{Block, Blocks, Count, Field, Lent, Parts, Wire};
 use crate::random::Rng;
 use crate::report::Mismatch;
 
@@ -237,6 +237,11 @@ fn may_go(parts: &Parts, count: Count) -> bool {
 
 /// Takes one element out, with whatever counts it or points past it.
 fn remove(parts: &mut Parts, args: &mut Args, op: usize, count: Count, place: usize) {
+    for (list, &(_, length)) in args.lists.iter_mut().zip(OPS[op].lists) {
+        if length.is_solution() {
+            cut_solution(parts, list, count, place);
+        }
+    }
     match count {
         Count::Segments => leave_owner(parts.wire_mut(Wire::Segments), place),
         Count::Terms => leave_row(parts, place),
@@ -263,12 +268,45 @@ fn remove(parts: &mut Parts, args: &mut Args, op: usize, count: Count, place: us
     close_up(parts, count, place as u32);
     take_out(parts, count, place);
     for (list, &(_, length)) in args.lists.iter_mut().zip(OPS[op].lists) {
-        if length == count && list.len() >= 8 * place + 8 {
+        if length == Length::Of(count) && list.len() >= 8 * place + 8 {
             list.drain(8 * place..8 * place + 8);
         }
     }
     if OPS[op].index == Some(count) && args.index > place {
         args.index -= 1;
+    }
+}
+
+/// Takes the words of one element out of a solution sheet, which may be too short or too
+/// long and then stays so.
+fn cut_solution(parts: &Parts, sheet: &mut Vec<u8>, count: Count, place: usize) {
+    let segments = parts.wire(Wire::Segments);
+    let epigraph = |generator: usize| segments[..generator].iter().filter(|&&s| s > 0).count();
+    let counts = Count::ALL.map(|count| parts.count(count));
+    let blocks = Blocks::new(&counts, epigraph(segments.len()));
+    let own = |block: &Block| block.length() == Some(count);
+    let mut gone: Vec<usize> = Block::ALL
+        .iter()
+        .filter(|block| own(block))
+        .map(|&block| blocks.range(block).start + place)
+        .collect();
+    if count == Count::Generators && segments[place] > 0 {
+        let duals = blocks.range(Block::SegmentDuals);
+        let first = duals.start + sum_before(segments, place).min(duals.len());
+        gone.push(blocks.range(Block::Epigraphs).start + epigraph(place));
+        gone.extend((first..duals.end).take(segments[place] as usize));
+    }
+    if count == Count::Segments {
+        let owner = (0..segments.len()).find(|&j| place < sum_before(segments, j + 1));
+        if let Some(generator) = owner.filter(|&generator| segments[generator] == 1) {
+            gone.push(blocks.range(Block::Epigraphs).start + epigraph(generator));
+        }
+    }
+    gone.sort_unstable();
+    for word in gone.into_iter().rev() {
+        if sheet.len() >= 8 * word + 8 {
+            sheet.drain(8 * word..8 * word + 8);
+        }
     }
 }
 

@@ -106,6 +106,10 @@ pub struct Oracle {
     dc: DcNetwork,
 }
 
+/// One solution as the original holds it.
+#[derive(Clone)]
+pub struct Solved(DcOpfSolution);
+
 fn take<'a, T>(rest: &mut &'a [T], count: usize) -> &'a [T] {
     let (front, back) = rest.split_at(count);
     *rest = back;
@@ -317,6 +321,15 @@ impl Oracle {
     /// The original's system itself; its methods are those of `Differentiable`.
     pub fn kkt(&self, solution: &[f64]) -> DcKkt<'_> {
         DcKkt::new(&self.dc, &self.solution(solution))
+    }
+
+    /// A sheet as the original holds it, so that reading it isn't timed.
+    pub fn solved(&self, solution: &[f64]) -> Solved {
+        Solved(self.solution(solution))
+    }
+
+    pub fn kkt_of(&self, solved: &Solved) -> DcKkt<'_> {
+        DcKkt::new(&self.dc, &solved.0)
     }
 
     pub fn dim(&self) -> usize {

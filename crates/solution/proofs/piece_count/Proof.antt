@@ -19,7 +19,7 @@ abbrev μ-loop : tie.MeasureT-loop
 loop-again : tie.Need-loop-again Inv-loop μ-loop
 loop-again c =
     let l = c .before .before .before in
-    let r = piece-more _ _ (l .loop .j) (l .loop .inv .2) (l .loop .inv .3) (c .before .word .ensures .0) (c .more .ensures) in
+    let r = piece-more _ _ (l .loop .j) (l .loop .inv .2) (l .loop .inv .3) (c .before .word .ensures .0) (c .next-piece .ensures) in
     (omega arith, refl, r .0, r .1)
 
 returns : tie.Need-returns Inv-loop μ-loop

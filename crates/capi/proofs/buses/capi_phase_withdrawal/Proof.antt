@@ -6,8 +6,8 @@ use borrow.Author.Needs.{needs}
 use Rattle.words.specs.Words.{doublesOf}
 use Rattle.network.specs.Numbers.{Network}
 use Rattle.model.specs.Calls.{phaseCall}
-use Rattle.capi.specs.Exports.{filledOut}
-use Rattle.capi.proofs.Answered.{bus-one, unsized, cut-count, cut-cells, told}
+use Rattle.decoding.specs.Exports.{filledOut}
+use Rattle.decoding.proofs.Answered.{bus-one, unsized, cut-count, cut-cells, told}
 use Rattle.capi.proofs.buses.capi_phase_withdrawal.Statement.{statement}
 use Rattle.capi.proofs.buses.capi_phase_withdrawal.Tie as tie
 

@@ -2,7 +2,7 @@
 use native.Mathlib.Omega.{arith}
 use mathlib.Core.Path.{_∙_}
 use borrow.Author.Needs.{needs}
-use Rattle.capi.proofs.Answered.{bus-answer, bus-count}
+use Rattle.decoding.proofs.Answered.{bus-answer, bus-count}
 use Rattle.capi.proofs.buses.current_fixed_withdrawal_out.Statement.{statement}
 use Rattle.capi.proofs.buses.current_fixed_withdrawal_out.Tie as tie
 

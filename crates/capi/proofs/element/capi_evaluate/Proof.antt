@@ -8,9 +8,9 @@ use lib.Ieee.{Float}
 use Rattle.words.specs.Words.{doublesOf}
 use Rattle.network.specs.Numbers.{Network}
 use Rattle.model.specs.Calls.{evaluateCall}
-use Rattle.capi.specs.Exports.{filledOut}
-use Rattle.capi.proofs.Decoded.{network, wholes}
-use Rattle.capi.proofs.Answered.{element-one, unsized-with, unsized-flows, unsized-powers, wholly, cut-count, cut-cells, told-with}
+use Rattle.decoding.specs.Exports.{filledOut}
+use Rattle.decoding.proofs.Decoded.{network, wholes}
+use Rattle.decoding.proofs.Answered.{element-one, unsized-with, unsized-flows, unsized-powers, wholly, cut-count, cut-cells, told-with}
 use Rattle.capi.proofs.element.capi_evaluate.Statement.{statement}
 use Rattle.capi.proofs.element.capi_evaluate.Tie as tie
 

@@ -2,7 +2,7 @@
 use native.Mathlib.Omega.{arith}
 use mathlib.Core.Path.{_∙_}
 use borrow.Author.Needs.{needs}
-use Rattle.capi.proofs.Answered.{element-answer, element-count}
+use Rattle.decoding.proofs.Answered.{element-answer, element-count}
 use Rattle.capi.proofs.element.generator_cost_out.Statement.{statement}
 use Rattle.capi.proofs.element.generator_cost_out.Tie as tie
 

@@ -7,16 +7,17 @@ use borrow.Author.Needs.{needs}
 use Rattle.words.specs.Words.{wordsOf, doublesOf}
 use Rattle.network.specs.Numbers.{Network}
 use Rattle.model.specs.Calls.{susceptanceCall}
-use Rattle.capi.specs.Exports.{laidOut}
-use Rattle.capi.proofs.Answered.{unsized, cut-count, told}
-use Rattle.capi.proofs.Listed.{list-one, list-cells}
+use Rattle.decoding.specs.Exports.{laidOut}
+use Rattle.decoding.proofs.Answered.{unsized, cut-count, told}
+use Rattle.decoding.proofs.Listed.{list-cells}
+use Rattle.capi.proofs.Listed.{susceptance-one}
 use Rattle.capi.proofs.list.capi_susceptance_coo.Statement.{statement}
 use Rattle.capi.proofs.list.capi_susceptance_coo.Tie as tie
 
 returns : tie.Need-returns
 returns c =
     let a = c .before .before .before .before .before .before .before .before .before .before .before .before .before .before .before .before .before .before .args in
-    list-one _ (wordsOf (a .rows .now)) (wordsOf (a .cols .now)) (doublesOf (a .values .now)) _ _ _ _ (unsized (c .before .before .before .before .before .before .take-network .ensures) (c .if1 .taken))
+    susceptance-one _ (wordsOf (a .rows .now)) (wordsOf (a .cols .now)) (doublesOf (a .values .now)) _ _ _ _ (unsized (c .before .before .before .before .before .before .take-network .ensures) (c .if1 .taken))
 
 array-share-prefix-w : tie.Need-array-share-prefix-w
 array-share-prefix-w c = c .before .before .before .before .before .before .before .take-network .ensures .decoded (not-false _ (c .before .if1 .left)) .1 .wiring-room

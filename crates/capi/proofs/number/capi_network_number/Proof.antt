@@ -4,7 +4,7 @@ use mathlib.Core.Bool.{Bool, cond}
 use borrow.Author.Tests.{not-false}
 use borrow.Author.Needs.{needs}
 use Rattle.network.specs.Numbers.{Network, networkNumber}
-use Rattle.capi.proofs.Answered.{number-one, cut-count, told}
+use Rattle.decoding.proofs.Answered.{number-one, cut-count, told}
 use Rattle.capi.proofs.number.capi_network_number.Statement.{statement}
 use Rattle.capi.proofs.number.capi_network_number.Tie as tie
 

@@ -5,8 +5,8 @@ use borrow.Author.Tests.{not-false}
 use borrow.Author.Needs.{needs}
 use Rattle.network.specs.Numbers.{Network}
 use Rattle.model.specs.Calls.{rowKindCall}
-use Rattle.capi.specs.Exports.{packed}
-use Rattle.capi.proofs.Answered.{kind-one, cut-count, told}
+use Rattle.decoding.specs.Exports.{packed}
+use Rattle.decoding.proofs.Answered.{kind-one, cut-count, told}
 use Rattle.capi.proofs.number.capi_row_kind.Statement.{statement}
 use Rattle.capi.proofs.number.capi_row_kind.Tie as tie
 

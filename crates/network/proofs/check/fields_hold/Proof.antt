@@ -1,44 +1,47 @@
--- `network::check::fields_hold` meets its contract. Assumes nothing.
-use mathlib.Core.Path.{_≡_, refl, sym, ap, _∙_}
-use mathlib.Core.Bool.{true}
-use Prim.Native.Nat.{ℕ, _-_, _≤_, _<_}
+-- `network::check::fields_hold` meets its contract: the first reading, then all later ones. Assumes nothing.
+use mathlib.Core.Path.{_≡_, sym, ap, _∙_}
+use mathlib.Core.Bool.{Bool, _&&_}
+use mathlib.Core.List.{List}
+use Prim.Native.Nat.{_-_}
 use native.Mathlib.Omega.{arith}
 use borrow.Author.Needs.{needs}
-use Rattle.sequence.specs.Lists.{every}
-use Rattle.sequence.proofs.Lists.{failed, held, every-none, every-more, every-fails}
-use Rattle.network.specs.Numbers.{fieldHolds}
+use lib.ListN.{length, drop, length-drop}
+use lib.Seq.{take-all}
+use lib.Ieee.{Float}
+use Rattle.float64.specs.Values.{rawLimit}
+use Rattle.sequence.proofs.Lists.{failed, held}
+use Rattle.network.specs.Numbers.{allWithin}
+use Rattle.network.proofs.Fields.{fields-flat}
 use Rattle.network.proofs.check.fields_hold.Statement.{statement}
 use Rattle.network.proofs.check.fields_hold.Tie as tie
 
-abbrev Inv-loop : tie.InvT-loop
-Inv-loop readings c k₀ k = (k ≤ 21) × (every (fieldHolds c readings) k ≡ true)
-
-abbrev μ-loop : tie.MeasureT-loop
-μ-loop readings c k₀ k = 21 - k
-
-returns : tie.Need-returns Inv-loop μ-loop
+returns : tie.Need-returns
 returns c =
-    let l = c .before .before .before in
-    sym (every-fails _ (l .loop .k) 21 (omega arith) (failed (c .before .field-holds .ensures) (c .if1 .taken)))
+    let s = c .before .before .before .before .before .before in
+    let r = s .args .readings .now in
+    let h = rw (c .before .before .before .base-low .ensures, c .before .before .base-high .ensures) at (failed (c .before .in-range .ensures) (c .if1 .taken)) in
+    sym (ap (λ (b : Bool). b && allWithin rawLimit (drop 1 r)) h) ∙ fields-flat (s .args .c) r (s .pre)
 
-loop-again : tie.Need-loop-again Inv-loop μ-loop
-loop-again c =
-    let l = c .before .before .before in
-    (omega arith, every-more _ (l .loop .k) (l .loop .inv .1) (held (c .before .field-holds .ensures) (c .if1 .left)))
-
-returns-2 : tie.Need-returns-2 Inv-loop μ-loop
+returns-2 : tie.Need-returns-2
 returns-2 c =
-    let e : c .before .loop .k ≡ 21 = omega arith in
-    sym (rw e at (c .before .loop .inv .1))
+    let s = c .before .before .before .before .before .before .before .before .before in
+    let r : List Float = s .args .readings .now in
+    let h = rw (c .before .before .before .before .before .before .base-low .ensures, c .before .before .before .before .before .base-high .ensures) at (held (c .before .before .before .before .in-range .ensures) (c .before .before .before .if1 .left)) in
+    rw (c .before .raw-limit .ensures .0, take-all (length r - 1) (drop 1 r) (omega (arith, length-drop 1 r))) at (c .all-within .ensures)
+    ∙ sym (ap (λ (b : Bool). b && allWithin rawLimit (drop 1 r)) h) ∙ fields-flat (s .args .c) r (s .pre)
 
 pub fields-hold-spec : {M : Type 1} → statement M
 fields-hold-spec =
     tie.close
-    (tie.spec Inv-loop μ-loop
-    (λ c. (omega arith, every-none _))
+    (tie.spec
+    (λ c. search needs)
+    (λ c κs. search needs)
+    (λ c κs. search needs)
     (λ c κs. search needs)
     returns
-    (λ c. omega arith)
-    (λ c. omega arith)
-    loop-again
+    (λ c. search needs)
+    (λ c. search needs)
+    (λ c. search needs)
+    (λ c κs. search needs)
+    (λ c κs. search needs)
     returns-2)

@@ -20,12 +20,12 @@ abbrev μ-loop : tie.MeasureT-loop
 returns : tie.Need-returns Inv-loop μ-loop
 returns c =
     let l = c .before .before .before .before in
-    sym (every-fails _ (l .loop .t) _ (omega arith) (le-ltb _ _ (rw (c .before .wide .ensures) at (c .if1 .taken))))
+    sym (every-fails _ (l .loop .t) _ (omega arith) (le-ltb _ _ (rw (c .before .wide .ensures .0) at (c .if1 .taken))))
 
 loop-again : tie.Need-loop-again Inv-loop μ-loop
 loop-again c =
     let l = c .before .before .before .before in
-    (omega arith, every-more _ (l .loop .t) (l .loop .inv .1) (lt-ltb _ _ (rw (c .before .wide .ensures) at (c .if1 .left))))
+    (omega arith, every-more _ (l .loop .t) (l .loop .inv .1) (lt-ltb _ _ (rw (c .before .wide .ensures .0) at (c .if1 .left))))
 
 returns-2 : tie.Need-returns-2 Inv-loop μ-loop
 returns-2 c =

@@ -1,0 +1,26 @@
+-- `decoding::decode::take_words` meets its contract: a law for each return. Assumes nothing.
+use borrow.Author.Needs.{needs}
+use lib.ListN.{length}
+use Rattle.words.specs.Words.{wordAt}
+use Rattle.decoding.proofs.Decoded.{ragged, long, fitting, held, never}
+use Rattle.decoding.proofs.decode.take_words.Statement.{statement}
+use Rattle.decoding.proofs.decode.take_words.Tie as tie
+
+returns : tie.Need-returns
+returns c =
+    let own = c .before .before .before .args in
+    (ragged 4 (own .b .now) (length (own .into .now)) (c .if1 .taken), λ e. never e)
+
+returns-2 : tie.Need-returns-2
+returns-2 c =
+    let own = c .before .before .before .before .args in
+    (long 4 (own .b .now) (length (own .into .now)) (c .before .if1 .left) (c .if2 .taken), λ e. never e)
+
+returns-3 : tie.Need-returns-3
+returns-3 c =
+    let s = c .before .before .before .before in
+    let own = s .before .before .before .before .args in
+    (fitting 4 (own .b .now) (length (own .into .now)) (s .before .if1 .left) (s .if2 .left), λ e. held (wordAt (own .b .now)) _ (own .into .now) (s .if2 .left) (c .before .before .decode-words .ensures .1) (c .before .before .decode-words .ensures .0))
+
+pub take-words-spec : {M : Type 1} → statement M
+take-words-spec = tie.close (tie.spec returns returns-2 (λ c κs. search needs) (λ c. search needs) returns-3)

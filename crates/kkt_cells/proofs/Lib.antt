@@ -1,0 +1,2 @@
+-- The laws of the kept susceptance sums. Assumes nothing.
+pub mod Cells

@@ -1,0 +1,2 @@
+-- What the laws of the list say. Assumes nothing.
+pub mod Laws

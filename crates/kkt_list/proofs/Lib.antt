@@ -1,0 +1,2 @@
+-- The laws that the whole list cites. Assumes nothing.
+pub mod Places

@@ -1,0 +1,4 @@
+-- The laws that proofs cite, here and in the crates above. Assumes nothing.
+pub mod Pairs
+pub mod Sides
+pub mod Duals

@@ -1,0 +1,16 @@
+-- `snapping::limit_state` meets its contract, test by test. Assumes nothing.
+use borrow.Author.Needs.{needs}
+use Rattle.snapping.proofs.limit_state.Statement.{statement}
+use Rattle.snapping.proofs.limit_state.Tie as tie
+
+returns : tie.Need-returns
+returns c = rw (← (c .before .snap-tol .ensures), c .if1 .taken)
+
+returns-2 : tie.Need-returns-2
+returns-2 c = rw (← (c .before .before .snap-tol .ensures), c .before .if1 .left, c .if2 .taken)
+
+returns-3 : tie.Need-returns-3
+returns-3 c = rw (← (c .before .before .snap-tol .ensures), c .before .if1 .left, c .if2 .left)
+
+pub limit-state-spec : {M : Type 1} → statement M
+limit-state-spec = tie.close (tie.spec (λ c κs. search needs) returns returns-2 returns-3)

@@ -1,0 +1,4 @@
+-- The definitions that the contracts cite, from document 01. Assumes nothing.
+pub mod States
+pub mod Expr
+pub mod Snap

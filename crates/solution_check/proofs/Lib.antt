@@ -1,0 +1,2 @@
+-- The laws of a call's own tests. Assumes nothing.
+pub mod Own

@@ -7,7 +7,6 @@ use kkt_chains::put_reference;
 use kkt_index::KktIdx;
 use network::Counts;
 use network::Part;
-use susceptance::link_ends;
 ghost use Rattle.network.specs.declared.Part.the-variants.{References};
 ghost use mathlib.Core.Bool.{true};
 ghost use Prim.Native.Nat.{_+_, _<_, _≤_};
@@ -17,6 +16,7 @@ ghost use Rattle.sequence.specs.Lists.{each};
 ghost use Rattle.sequence.specs.Links.{Links};
 ghost use Rattle.sequence.specs.Sheets.{held, Puts, Room};
 ghost use Rattle.network.specs.Layout.{reading, wire};
+ghost use Rattle.susceptance.specs.Incidence.{Chains};
 ghost use Rattle.kkt_index.specs.Index.{startIn};
 ghost use Rattle.solution.specs.Sheet.{solved};
 ghost use Rattle.kkt.specs.Slots.{nuBalColumn, referenceSlot, vaColumn};
@@ -50,7 +50,7 @@ fn put_angle_rest(
     requires { ⌜ (c .buses ≤ length (now first)) × (j < c .buses) × (at < 0x800_0000) ⌝ }
     requires { ⌜ Room limit (held rows cols values at) ⌝ }
     ensures { λ k. ⌜ Puts limit (emitted (startIn x) (reading c (now (readings .entry))) (solved c (x .pieces) (now (sheet .entry))) (balanceSlots true c (now (wiring .entry)) j ++ each (c .references) (referenceSlot firstPlace c (now (wiring .entry)) j))) (held (rows .entry) (cols .entry) (values .entry) at) (held (rows .exit) (cols .exit) (values .exit) k) ⌝ }
-    ensures most { λ k. ⌜ k ≤ at + 2049 ⌝ }
+    ensures most { λ k. ⌜ k ≤ at + 1281 ⌝ }
 {
     let k = put_kept(
         wiring,
@@ -93,6 +93,8 @@ pub fn put_angles(
     sheet: &[f64],
     c: Counts,
     x: KktIdx,
+    head: &[u32],
+    next: &[u32],
     starts: &[u32],
     buses: &[u32],
     sums: &[f64],
@@ -103,17 +105,15 @@ pub fn put_angles(
     at: usize,
 ) -> usize
     requires { ⌜ Lent c (now wiring) (now readings) (now sheet) x ⌝ }
+    requires { ⌜ Chains c (now wiring) (now head) (now next) ⌝ }
     requires { ⌜ Kept c (now wiring) (now readings) (now starts) (now buses) (now sums) ⌝ }
     requires { ⌜ at < 0x400_0000 ⌝ }
     requires { ⌜ Room limit (held rows cols values at) ⌝ }
     ensures { λ k. ⌜ Puts limit (emitted (startIn x) (reading c (now (readings .entry))) (solved c (x .pieces) (now (sheet .entry))) (each (c .buses) (vaColumn firstPlace c (now (wiring .entry))))) (held (rows .entry) (cols .entry) (values .entry) at) (held (rows .exit) (cols .exit) (values .exit) k) ⌝ }
     ensures most { λ k. ⌜ k ≤ at + 0x18_0000 ⌝ }
 {
-    let mut head = [0u32; 256];
-    let mut next = [0u32; 1024];
     let mut first = [0u32; 256];
     let mut later = [0u32; 16];
-    link_ends(wiring, c, &mut head, &mut next);
     link_part(wiring, c, Part::References, &mut first, &mut later);
     let to = c.buses;
     let mut k = at;
@@ -124,8 +124,8 @@ pub fn put_angles(
             sheet,
             c,
             x,
-            &head,
-            &next,
+            head,
+            next,
             j,
             rows,
             cols,

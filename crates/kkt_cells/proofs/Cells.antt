@@ -14,16 +14,15 @@ use lib.Dec.{eqb}
 use lib.IntN.{pos}
 use lib.Ieee.{Float, nan, inf, fin, up, down, neg, eq, ofBits}
 use Rattle.float64.specs.Values.{nought}
-use Rattle.sequence.specs.Lists.{each, when, front}
-use Rattle.sequence.specs.Sheets.{Triplet, triplet, emit, rowsOf, colsOf, valuesOf, Sheets, sheets, Puts}
+use Rattle.sequence.specs.Lists.{before, each, when, front}
+use Rattle.sequence.specs.Sheets.{Triplet, triplet, emit, rowsOf, colsOf, valuesOf, Sheets, sheets, Puts, Room}
 use Rattle.sequence.proofs.Lists.{each-same, each-add, each-more, stored-at}
 use Rattle.sequence.proofs.Sheets.{full, begin, more}
 use Rattle.network.specs.declared.Counts.{Counts}
 use Rattle.network.specs.Layout.{reading, Few}
 use Rattle.solution.specs.declared.Entry.{Entry}
-use Rattle.susceptance.specs.Susceptance.{susceptance, touched, susceptanceCell, susceptanceRow, susceptanceCoo}
+use Rattle.susceptance.specs.Susceptance.{susceptance}
 use Rattle.susceptance.specs.Incidence.{RowHeld}
-use Rattle.susceptance.proofs.Bound.{list-length}
 use Rattle.kkt_index.specs.declared.Block.{Block}
 use Rattle.kkt_index.specs.declared.Block.the-variants.{Va, NuBal}
 use Rattle.snapping.specs.Expr.{eval}
@@ -31,16 +30,20 @@ use Rattle.kkt.specs.Slots.{balance}
 use Rattle.kkt.specs.Matrix.{kept, emitted}
 use Rattle.kkt.specs.Walks.{taken, spanOf, balanceSlots}
 use Rattle.kkt.proofs.Emitted.{emitted-each}
-use Rattle.kkt_sums.proofs.Sums.{balance-is, symmetric, untouched}
+use Rattle.kkt_laws.proofs.Sums.{bit}
+use Rattle.kkt_laws.proofs.Counted.{listed}
+use Rattle.kkt_laws.proofs.Balances.{balance-le}
+use Rattle.kkt_sums.proofs.Sums.{balance-is, symmetric}
 use Rattle.kkt_cells.specs.Cells.{cellsOf, cellStart, Kept}
 
 -- ---- lists that turns append
 
 module _ {A : Type 0} where
-  lengths-le : (n : ℕ) (f g : ℕ → List A) → ((i : ℕ) → length (f i) ≤ length (g i)) → length (each n f) ≤ length (each n g)
-  unfolding each
-  lengths-le zero f g h = omega arith
-  lengths-le (suc n) f g h = omega (arith, length-append (each n f) (f n), length-append (each n g) (g n), lengths-le n f g h, h n)
+  -- as long as the turns' parts together
+  lengths : (n : ℕ) (f : ℕ → List A) (g : ℕ → ℕ) → ((i : ℕ) → length (f i) ≡ g i) → length (each n f) ≡ before g n
+  unfolding each before
+  lengths zero f g h = refl
+  lengths (suc n) f g h = omega (arith, length-append (each n f) (f n), lengths n f g h, h n)
 
   -- a turn's part lies within the whole
   within : (f : ℕ → List A) (j n : ℕ) → j < n → length (each j f) + length (f j) ≤ length (each n f)
@@ -67,27 +70,36 @@ module _ (c : Counts) (w : List ℕ) (r : List Float) where
   unfolding spanOf cellsOf
   cells-are j h = each-same (c .buses) _ _ (λ i l. rw (zero-add, zero-add, h .sums i l))
 
-  -- ---- how many there are: none where no branch touches
+  -- a sum is the entry of its column, at whatever sheet
+  pub entry-is : (S : Entry → ℕ → Float) (j i : ℕ) → susceptance c w r j i ≡ eval (reading c r) S (balance c w i j)
+  entry-is S j i = symmetric c w r j i ∙ sym (balance-is c r S w i j)
 
-  cell-most : (j i : ℕ) → length (emit (kept i j (susceptance c w r j i))) ≤ length (susceptanceCell c w r j i)
-  unfolding emit susceptanceCell when eq ofBits
-  cell-most j i = go (touched c w r j i) refl
+  -- ---- how many there are: one for each bus and two for each branch at most
+
+  zeros : Entry → ℕ → Float
+  zeros e i = nought
+
+  none-dead : eq nought nought ≡ true
+  unfolding eq ofBits
+  none-dead = refl
+
+  cell-length : (j i : ℕ) → length (emit (kept i j (susceptance c w r j i))) ≡ listed (eval (reading c r) zeros (balance c w i j))
+  unfolding emit when
+  cell-length j i = rw (entry-is zeros j i) (go (not (eq (eval (reading c r) zeros (balance c w i j)) nought)) (triplet i j (eval (reading c r) zeros (balance c w i j))))
     where
-      at-most : (b : Bool) (t : Triplet) → length (when b (t ∷ [])) ≤ 1
-      at-most true t = omega arith
-      at-most false t = omega arith
+      go : (b : Bool) (t : Triplet) → length (when b (t ∷ [])) ≡ bit b
+      go true t = refl
+      go false t = refl
 
-      go : (b : Bool) → touched c w r j i ≡ b → length (emit (kept i j (susceptance c w r j i))) ≤ length (when b (triplet j i (susceptance c w r j i) ∷ []))
-      go true e = at-most (not (eq (susceptance c w r j i) nought)) (triplet i j (susceptance c w r j i))
-      go false e = rw (untouched c w r j i e) (omega arith)
-
-  cells-most : length (each (c .buses) (cellsOf c w r)) ≤ length (susceptanceCoo c w r)
-  unfolding susceptanceCoo susceptanceRow cellsOf
-  cells-most = lengths-le (c .buses) _ _ (λ j. lengths-le (c .buses) _ _ (λ i. cell-most j i))
-
-  start-all : Few c → cellStart c w r (c .buses) ≤ 2048
-  unfolding cellStart
-  start-all f = omega (arith, cells-most, list-length c w r, f .branches)
+  start-all : cellStart c w r (c .buses) ≤ c .buses + 2 * c .branches
+  unfolding cellStart cellsOf
+  start-all =
+      omega (
+        arith,
+        lengths (c .buses) (cellsOf c w r) (λ j. before (λ i. listed (eval (reading c r) zeros (balance c w i j))) (c .buses))
+            (λ j. lengths (c .buses) _ (λ i. listed (eval (reading c r) zeros (balance c w i j))) (λ i. cell-length j i)),
+        balance-le c w (λ x. eval (reading c r) zeros x) none-dead,
+      )
 
   start-more : (j : ℕ) → cellStart c w r (j + 1) ≡ cellStart c w r j + length (cellsOf c w r j)
   unfolding cellStart
@@ -111,20 +123,20 @@ unfolding front
 front-at new old i d h = List·getD-append new _ d i h
 
 module _ (c : Counts) (w : List ℕ) (r : List Float) where
-  module _ {B C B′ C′ : List ℕ} {X X′ : List Float} {k : ℕ} (few : Few c) (hb : 2048 ≤ length B) (hc : 2048 ≤ length C) (hx : 2048 ≤ length X) where
+  module _ {B C B′ C′ : List ℕ} {X X′ : List Float} {cap k : ℕ} (few : c .buses + 2 * c .branches ≤ cap) (fit : Room cap (sheets B C X 0)) where
     -- the first j buses' are put
-    filled : (j : ℕ) → j ≤ c .buses → Puts 2048 (each j (cellsOf c w r)) (sheets B C X 0) (sheets B′ C′ X′ k)
+    filled : (j : ℕ) → j ≤ c .buses → Puts cap (each j (cellsOf c w r)) (sheets B C X 0) (sheets B′ C′ X′ k)
         → sheets B′ C′ X′ k ≡ sheets (front (rowsOf (each j (cellsOf c w r))) B) (front (colsOf (each j (cellsOf c w r))) C) (front (valuesOf (each j (cellsOf c w r))) X) (length (each j (cellsOf c w r)))
     unfolding cellStart
     filled j h p =
-        let l : length (each j (cellsOf c w r)) ≤ 2048 = omega (arith, start-most c w r j h, start-all c w r few) in
-        full p l (omega arith) (omega arith) (omega arith)
+        let l : length (each j (cellsOf c w r)) ≤ cap = omega (arith, start-most c w r j h, start-all c w r) in
+        full p l (omega (arith, l, fit .in-rows)) (omega (arith, l, fit .in-cols)) (omega (arith, l, fit .in-values))
 
-    pub counted : (j : ℕ) → j ≤ c .buses → Puts 2048 (each j (cellsOf c w r)) (sheets B C X 0) (sheets B′ C′ X′ k) → k ≡ cellStart c w r j
+    pub counted : (j : ℕ) → j ≤ c .buses → Puts cap (each j (cellsOf c w r)) (sheets B C X 0) (sheets B′ C′ X′ k) → k ≡ cellStart c w r j
     unfolding cellStart
     counted j h p = ap (λ (S : Sheets). S .at) (filled j h p)
 
-    module _ (p : Puts 2048 (each (c .buses) (cellsOf c w r)) (sheets B C X 0) (sheets B′ C′ X′ k)) where
+    module _ (p : Puts cap (each (c .buses) (cellsOf c w r)) (sheets B C X 0) (sheets B′ C′ X′ k)) where
       bus-there : (j t : ℕ) → j < c .buses → t < length (cellsOf c w r j) → getD B′ (cellStart c w r j + t) 0 ≡ getD (rowsOf (cellsOf c w r j)) t 0
       unfolding cellStart
       bus-there j t h l =
@@ -149,15 +161,15 @@ module _ (c : Counts) (w : List ℕ) (r : List Float) where
           ∙ ap (λ (x : Triplet). x .value) (part-at (cellsOf c w r) nothing-there j t (c .buses) h l)
           ∙ sym (List·getD-map (λ (x : Triplet). x .value) (cellsOf c w r j) t nothing-there)
 
-      pub kept-all : {starts : List ℕ} → ((j : ℕ) → j ≤ c .buses → getD starts j 0 ≡ cellStart c w r j) → c .buses < length starts → Kept c w r starts B′ X′
-      kept-all s f = record {
+      pub kept-all : {starts : List ℕ} → Few c → ((j : ℕ) → j ≤ c .buses → getD starts j 0 ≡ cellStart c w r j) → c .buses < length starts → Kept c w r starts B′ X′
+      kept-all m s f = record {
         starts-at = s;
         starts-fit = f;
         bus-at = bus-there;
         sum-at = sum-there;
-        few = start-all c w r few;
-        buses-fit = omega (arith, start-all c w r few, p .rows-kept);
-        sums-fit = omega (arith, start-all c w r few, p .values-kept);
+        few = omega (arith, start-all c w r, m .buses, m .branches);
+        buses-fit = omega (arith, start-all c w r, p .rows-kept, fit .in-rows);
+        sums-fit = omega (arith, start-all c w r, p .values-kept, fit .in-values);
       }
 
 -- ---- where each bus's start
@@ -227,9 +239,6 @@ module _ (less : Bool) (from col : ℕ) where
 
 module _ (start : Block → ℕ) (c : Counts) (w : List ℕ) (r : List Float) (S : Entry → ℕ → Float) (j : ℕ) where
   -- a bus's kept sums are the entries of its column
-  entry-is : (i : ℕ) → susceptance c w r j i ≡ eval (reading c r) S (balance c w i j)
-  entry-is i = symmetric c w r j i ∙ sym (balance-is c r S w i j)
-
   cells-again : (less : Bool) (from col : ℕ) → over less from col (cellsOf c w r j) ≡ each (c .buses) (λ i. emit (kept (from + i) col (taken less (susceptance c w r j i))))
   unfolding cellsOf
   cells-again less from col = over-each less from col (c .buses) _ ∙ each-same (c .buses) _ _ (λ i l. over-one less from col i j (susceptance c w r j i))
@@ -237,8 +246,8 @@ module _ (start : Block → ℕ) (c : Counts) (w : List ℕ) (r : List Float) (S
   entries : (less : Bool) (from col : ℕ) → from ≡ cond less (start NuBal) (start Va) → col ≡ cond less (start Va) (start NuBal) + j
       → each (c .buses) (λ i. emit (kept (from + i) col (taken less (susceptance c w r j i)))) ≡ emitted start (reading c r) S (balanceSlots less c w j)
   unfolding emitted
-  entries true from col ef ec = each-same (c .buses) _ _ (λ i l. rw (append-nil, entry-is i, ef, ec)) ∙ sym (emitted-each start (reading c r) S (c .buses) _)
-  entries false from col ef ec = each-same (c .buses) _ _ (λ i l. rw (append-nil, entry-is i, ef, ec)) ∙ sym (emitted-each start (reading c r) S (c .buses) _)
+  entries true from col ef ec = each-same (c .buses) _ _ (λ i l. rw (append-nil, entry-is c w r S j i, ef, ec)) ∙ sym (emitted-each start (reading c r) S (c .buses) _)
+  entries false from col ef ec = each-same (c .buses) _ _ (λ i l. rw (append-nil, entry-is c w r S j i, ef, ec)) ∙ sym (emitted-each start (reading c r) S (c .buses) _)
 
 -- ---- the walk over a bus's kept sums
 
@@ -291,7 +300,7 @@ module _ {c : Counts} {w : List ℕ} {r : List Float} {starts B : List ℕ} {X :
   to-is : to ≡ first + length (cellsOf c w r j)
   to-is = et ∙ k .starts-at (j + 1) (omega arith) ∙ start-more c w r j ∙ ap (λ (n : ℕ). n + length (cellsOf c w r j)) (sym first-is)
 
-  pub to-fits : (first ≤ to) × (to ≤ 2048) × (to ≤ length B) × (to ≤ length X)
+  pub to-fits : (first ≤ to) × (to ≤ 1280) × (to ≤ length B) × (to ≤ length X)
   to-fits =
       let e = to-is in
       let f = first-is in

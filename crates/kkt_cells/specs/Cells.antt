@@ -24,6 +24,6 @@ pub record Kept (c : Counts) (w : List ℕ) (r : List Float) (starts buses : Lis
   pub starts-fit : c .buses < length starts
   pub bus-at : (j t : ℕ) → j < c .buses → t < length (cellsOf c w r j) → getD buses (cellStart c w r j + t) 0 ≡ getD (rowsOf (cellsOf c w r j)) t 0
   pub sum-at : (j t : ℕ) → j < c .buses → t < length (cellsOf c w r j) → getD sums (cellStart c w r j + t) nan ≡ getD (valuesOf (cellsOf c w r j)) t nan
-  pub few : cellStart c w r (c .buses) ≤ 2048
+  pub few : cellStart c w r (c .buses) ≤ 1280
   pub buses-fit : cellStart c w r (c .buses) ≤ length buses
   pub sums-fit : cellStart c w r (c .buses) ≤ length sums

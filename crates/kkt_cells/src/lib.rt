@@ -7,10 +7,9 @@ use network::Counts;
 use network::layout::wide;
 use sequence::Item;
 use sequence::put;
-use susceptance::link_ends;
 use susceptance::make_row;
 ghost use mathlib.Core.Path.{_≡_};
-ghost use Prim.Native.Nat.{_+_, _<_, _≤_};
+ghost use Prim.Native.Nat.{_+_, _*_, _<_, _≤_};
 ghost use lib.ListN.{length};
 ghost use Rattle.sequence.specs.Sheets.{held, Puts, Room};
 ghost use Rattle.network.specs.Layout.{ReadingsLaid, reading};
@@ -22,7 +21,7 @@ ghost use Rattle.kkt.specs.Matrix.{kept, emitted};
 ghost use Rattle.kkt.specs.Walks.{Lent, taken, balanceSlots};
 ghost use Rattle.kkt_cells.specs.Cells.{cellsOf, Kept};
 
-// Bus j's sums that are not zero, into three sheets from a place on.
+// Bus j's sums that are not zero, into three sheets of `cap` words from a place on.
 fn keep_row(
     wiring: &[u32],
     readings: &[f64],
@@ -35,6 +34,7 @@ fn keep_row(
     buses: &mut [u32],
     cols: &mut [u32],
     sums: &mut [f64],
+    cap: usize,
     at: usize,
 ) -> usize
     requires { ⌜ Wired c (now wiring) ⌝ }
@@ -42,34 +42,38 @@ fn keep_row(
     requires { ⌜ Chains c (now wiring) (now head) (now next) ⌝ }
     requires { ⌜ (c .buses ≤ length (now acc)) × (16 + c .buses ≤ length (now hit)) ⌝ }
     requires { ⌜ (j < c .buses) × (at < 0x800_0000) ⌝ }
-    requires { ⌜ Room 2048 (held buses cols sums at) ⌝ }
-    ensures { λ k. ⌜ Puts 2048 (cellsOf c (now (wiring .entry)) (now (readings .entry)) j) (held (buses .entry) (cols .entry) (sums .entry) at) (held (buses .exit) (cols .exit) (sums .exit) k) ⌝ }
+    requires { ⌜ Room cap (held buses cols sums at) ⌝ }
+    ensures { λ k. ⌜ Puts cap (cellsOf c (now (wiring .entry)) (now (readings .entry)) j) (held (buses .entry) (cols .entry) (sums .entry) at) (held (buses .exit) (cols .exit) (sums .exit) k) ⌝ }
     ensures most { λ k. ⌜ k ≤ at + 256 ⌝ }
 {
     make_row(wiring, readings, c, head, next, j, acc, hit);
-    put_sums(c.buses, false, acc, hit, 0, j, buses, cols, sums, 2048, at)
+    put_sums(c.buses, acc, hit, j, buses, cols, sums, cap, at)
 }
 
 // Every bus's sums that are not zero: where each bus's start, the other buses, and the sums.
+// There are at most one for each bus and two for each branch, and `cap` words for them.
 pub fn keep_sums(
     wiring: &[u32],
     readings: &[f64],
     c: Counts,
+    head: &[u32],
+    next: &[u32],
+    acc: &mut [f64],
+    hit: &mut [u32],
     starts: &mut [u32],
     buses: &mut [u32],
     cols: &mut [u32],
     sums: &mut [f64],
+    cap: usize,
 )
     requires { ⌜ Wired c (now wiring) ⌝ }
     requires { ⌜ ReadingsLaid c (now readings) ⌝ }
-    requires { ⌜ (c .buses < length (now starts)) × (2048 ≤ length (now buses)) × (2048 ≤ length (now cols)) × (2048 ≤ length (now sums)) ⌝ }
+    requires { ⌜ Chains c (now wiring) (now head) (now next) ⌝ }
+    requires { ⌜ (c .buses ≤ length (now acc)) × (16 + c .buses ≤ length (now hit)) ⌝ }
+    requires { ⌜ (c .buses < length (now starts)) × (c .buses + 2 * c .branches ≤ cap) ⌝ }
+    requires { ⌜ Room cap (held buses cols sums 0) ⌝ }
     ensures { λ _. ⌜ Kept c (now (wiring .entry)) (now (readings .entry)) (now (starts .exit)) (now (buses .exit)) (now (sums .exit)) ⌝ }
 {
-    let mut head = [0u32; 256];
-    let mut next = [0u32; 1024];
-    let mut acc = [0.0; 256];
-    let mut hit = [0u32; 272];
-    link_ends(wiring, c, &mut head, &mut next);
     let n = c.buses;
     let mut k = 0;
     starts[0] = 0;
@@ -78,14 +82,15 @@ pub fn keep_sums(
             wiring,
             readings,
             c,
-            &head,
-            &next,
+            head,
+            next,
             j,
-            &mut acc,
-            &mut hit,
+            acc,
+            hit,
             buses,
             cols,
             sums,
+            cap,
             k,
         );
         starts[j + 1] = k as u32;
@@ -131,7 +136,7 @@ pub fn put_kept(
     requires { ⌜ (j < c .buses) × (at < 0x800_0000) ⌝ }
     requires { ⌜ Room limit (held rows cols values at) ⌝ }
     ensures { λ k. ⌜ Puts limit (emitted (startIn x) (reading c (now (readings .entry))) (solved c (x .pieces) (now (sheet .entry))) (balanceSlots less c (now (wiring .entry)) j)) (held (rows .entry) (cols .entry) (values .entry) at) (held (rows .exit) (cols .exit) (values .exit) k) ⌝ }
-    ensures most { λ k. ⌜ k ≤ at + 2048 ⌝ }
+    ensures most { λ k. ⌜ k ≤ at + 1280 ⌝ }
 {
     let va = x.start(Block::Va);
     let nu_bal = x.start(Block::NuBal);

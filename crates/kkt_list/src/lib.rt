@@ -12,13 +12,15 @@ use kkt_rows::put_rows;
 use kkt_short::put_short;
 use network::Counts;
 use solution::piece_count;
+use susceptance::link_ends;
 ghost use mathlib.Core.Path.{_≡_};
-ghost use Prim.Native.Nat.{_+_, _<_, _≤_};
+ghost use Prim.Native.Nat.{_+_, _*_, _<_, _≤_};
 ghost use lib.ListN.{length};
 ghost use Rattle.sequence.specs.Lists.{each};
 ghost use Rattle.sequence.specs.Sheets.{held, Puts, Room};
 ghost use Rattle.network.specs.Layout.{reading, ReadingsLaid};
 ghost use Rattle.network.specs.Numbers.{Wired, Termed};
+ghost use Rattle.susceptance.specs.Incidence.{Chains};
 ghost use Rattle.kkt_index.specs.Index.{startIn, Indexed, linearRows};
 ghost use Rattle.solution.specs.Sheet.{solved, pieces, SheetLaid};
 ghost use Rattle.kkt.specs.Slots.{siteOf, blockSlots, emission, emissionAt};
@@ -91,6 +93,8 @@ fn put_block(
     sheet: &[f64],
     c: Counts,
     x: KktIdx,
+    head: &[u32],
+    next: &[u32],
     starts: &[u32],
     buses: &[u32],
     sums: &[f64],
@@ -102,6 +106,7 @@ fn put_block(
     at: usize,
 ) -> usize
     requires { ⌜ Lent c (now wiring) (now readings) (now sheet) x ⌝ }
+    requires { ⌜ Chains c (now wiring) (now head) (now next) ⌝ }
     requires { ⌜ Kept c (now wiring) (now readings) (now starts) (now buses) (now sums) ⌝ }
     requires { ⌜ Termed c (now wiring) (now «term_index») (now «term_coefficient») ⌝ }
     requires { ⌜ at < 0x200_0000 ⌝ }
@@ -116,6 +121,8 @@ fn put_block(
             sheet,
             c,
             x,
+            head,
+            next,
             starts,
             buses,
             sums,
@@ -218,6 +225,8 @@ fn put_blocks(
     sheet: &[f64],
     c: Counts,
     x: KktIdx,
+    head: &[u32],
+    next: &[u32],
     starts: &[u32],
     buses: &[u32],
     sums: &[f64],
@@ -227,6 +236,7 @@ fn put_blocks(
     limit: usize,
 ) -> usize
     requires { ⌜ Lent c (now wiring) (now readings) (now sheet) x ⌝ }
+    requires { ⌜ Chains c (now wiring) (now head) (now next) ⌝ }
     requires { ⌜ Kept c (now wiring) (now readings) (now starts) (now buses) (now sums) ⌝ }
     requires { ⌜ Termed c (now wiring) (now «term_index») (now «term_coefficient») ⌝ }
     requires { ⌜ Room limit (held rows cols values 0) ⌝ }
@@ -243,6 +253,8 @@ fn put_blocks(
             sheet,
             c,
             x,
+            head,
+            next,
             starts,
             buses,
             sums,
@@ -266,6 +278,182 @@ pub fn index_of(wiring: &[u32], readings: &[f64], c: Counts) -> KktIdx
     KktIdx::new(c, piece_count(wiring, c), linear_rows(wiring, readings, c))
 }
 
+// The list, with arrays lent for the chains of the branches' ends and the susceptance sums.
+fn put_lent(
+    wiring: &[u32],
+    readings: &[f64],
+    term_index: &[u32],
+    term_coefficient: &[f64],
+    sheet: &[f64],
+    c: Counts,
+    head: &mut [u32],
+    next: &mut [u32],
+    acc: &mut [f64],
+    hit: &mut [u32],
+    starts: &mut [u32],
+    buses: &mut [u32],
+    others: &mut [u32],
+    sums: &mut [f64],
+    cap: usize,
+    rows: &mut [u32],
+    cols: &mut [u32],
+    values: &mut [f64],
+    limit: usize,
+) -> usize
+    requires { ⌜ Wired c (now wiring) ⌝ }
+    requires { ⌜ ReadingsLaid c (now readings) ⌝ }
+    requires { ⌜ Termed c (now wiring) (now «term_index») (now «term_coefficient») ⌝ }
+    requires { ⌜ SheetLaid c (pieces c (now wiring)) (now sheet) ⌝ }
+    requires { ⌜ (c .buses ≤ length (now head)) × (2 * c .branches ≤ length (now next)) ⌝ }
+    requires { ⌜ (c .buses ≤ length (now acc)) × (16 + c .buses ≤ length (now hit)) ⌝ }
+    requires { ⌜ (c .buses < length (now starts)) × (c .buses + 2 * c .branches ≤ cap) ⌝ }
+    requires { ⌜ Room cap (held buses others sums 0) ⌝ }
+    requires { ⌜ Room limit (held rows cols values 0) ⌝ }
+    ensures { λ k. ⌜ Puts limit (kktList firstPlace c (now (wiring .entry)) (now (readings .entry)) (now («term_index» .entry)) (now («term_coefficient» .entry)) (now (sheet .entry))) (held (rows .entry) (cols .entry) (values .entry) 0) (held (rows .exit) (cols .exit) (values .exit) k) ⌝ }
+    ensures most { λ k. ⌜ k ≤ 0x1b0_0000 ⌝ }
+{
+    link_ends(wiring, c, head, next);
+    keep_sums(
+        wiring,
+        readings,
+        c,
+        head,
+        next,
+        acc,
+        hit,
+        starts,
+        buses,
+        others,
+        sums,
+        cap,
+    );
+    let x = index_of(wiring, readings, c);
+    put_blocks(
+        wiring,
+        readings,
+        term_index,
+        term_coefficient,
+        sheet,
+        c,
+        x,
+        head,
+        next,
+        starts,
+        buses,
+        sums,
+        rows,
+        cols,
+        values,
+        limit,
+    )
+}
+
+// The list of a network of few buses and branches, which need not wait until arrays of the greatest
+// sizes are cleared.
+fn put_small(
+    wiring: &[u32],
+    readings: &[f64],
+    term_index: &[u32],
+    term_coefficient: &[f64],
+    sheet: &[f64],
+    c: Counts,
+    rows: &mut [u32],
+    cols: &mut [u32],
+    values: &mut [f64],
+    limit: usize,
+) -> usize
+    requires { ⌜ Wired c (now wiring) ⌝ }
+    requires { ⌜ ReadingsLaid c (now readings) ⌝ }
+    requires { ⌜ Termed c (now wiring) (now «term_index») (now «term_coefficient») ⌝ }
+    requires { ⌜ SheetLaid c (pieces c (now wiring)) (now sheet) ⌝ }
+    requires { ⌜ (c .buses ≤ 32) × (c .branches ≤ 48) ⌝ }
+    requires { ⌜ Room limit (held rows cols values 0) ⌝ }
+    ensures { λ k. ⌜ Puts limit (kktList firstPlace c (now (wiring .entry)) (now (readings .entry)) (now («term_index» .entry)) (now («term_coefficient» .entry)) (now (sheet .entry))) (held (rows .entry) (cols .entry) (values .entry) 0) (held (rows .exit) (cols .exit) (values .exit) k) ⌝ }
+    ensures most { λ k. ⌜ k ≤ 0x1b0_0000 ⌝ }
+{
+    let mut head = [0u32; 32];
+    let mut next = [0u32; 96];
+    let mut acc = [0.0; 32];
+    let mut hit = [0u32; 48];
+    let mut starts = [0u32; 33];
+    let mut buses = [0u32; 128];
+    let mut others = [0u32; 128];
+    let mut sums = [0.0; 128];
+    put_lent(
+        wiring,
+        readings,
+        term_index,
+        term_coefficient,
+        sheet,
+        c,
+        &mut head,
+        &mut next,
+        &mut acc,
+        &mut hit,
+        &mut starts,
+        &mut buses,
+        &mut others,
+        &mut sums,
+        128,
+        rows,
+        cols,
+        values,
+        limit,
+    )
+}
+
+// The list of any network.
+fn put_large(
+    wiring: &[u32],
+    readings: &[f64],
+    term_index: &[u32],
+    term_coefficient: &[f64],
+    sheet: &[f64],
+    c: Counts,
+    rows: &mut [u32],
+    cols: &mut [u32],
+    values: &mut [f64],
+    limit: usize,
+) -> usize
+    requires { ⌜ Wired c (now wiring) ⌝ }
+    requires { ⌜ ReadingsLaid c (now readings) ⌝ }
+    requires { ⌜ Termed c (now wiring) (now «term_index») (now «term_coefficient») ⌝ }
+    requires { ⌜ SheetLaid c (pieces c (now wiring)) (now sheet) ⌝ }
+    requires { ⌜ Room limit (held rows cols values 0) ⌝ }
+    ensures { λ k. ⌜ Puts limit (kktList firstPlace c (now (wiring .entry)) (now (readings .entry)) (now («term_index» .entry)) (now («term_coefficient» .entry)) (now (sheet .entry))) (held (rows .entry) (cols .entry) (values .entry) 0) (held (rows .exit) (cols .exit) (values .exit) k) ⌝ }
+    ensures most { λ k. ⌜ k ≤ 0x1b0_0000 ⌝ }
+{
+    let mut head = [0u32; 256];
+    let mut next = [0u32; 1024];
+    let mut acc = [0.0; 256];
+    let mut hit = [0u32; 272];
+    let mut starts = [0u32; 257];
+    let mut buses = [0u32; 1280];
+    let mut others = [0u32; 1280];
+    let mut sums = [0.0; 1280];
+    put_lent(
+        wiring,
+        readings,
+        term_index,
+        term_coefficient,
+        sheet,
+        c,
+        &mut head,
+        &mut next,
+        &mut acc,
+        &mut hit,
+        &mut starts,
+        &mut buses,
+        &mut others,
+        &mut sums,
+        1280,
+        rows,
+        cols,
+        values,
+        limit,
+    )
+}
+
 // The list into three sheets, below a limit: counted always, stored below it.
 pub fn put_kkt(
     wiring: &[u32],
@@ -287,31 +475,29 @@ pub fn put_kkt(
     ensures { λ k. ⌜ Puts limit (kktList firstPlace c (now (wiring .entry)) (now (readings .entry)) (now («term_index» .entry)) (now («term_coefficient» .entry)) (now (sheet .entry))) (held (rows .entry) (cols .entry) (values .entry) 0) (held (rows .exit) (cols .exit) (values .exit) k) ⌝ }
     ensures most { λ k. ⌜ k ≤ 0x1b0_0000 ⌝ }
 {
-    let mut starts = [0u32; 257];
-    let mut buses = [0u32; 2048];
-    let mut others = [0u32; 2048];
-    let mut sums = [0.0; 2048];
-    keep_sums(
-        wiring,
-        readings,
-        c,
-        &mut starts,
-        &mut buses,
-        &mut others,
-        &mut sums,
-    );
-    let x = index_of(wiring, readings, c);
-    put_blocks(
+    if c.buses <= 32 {
+        if c.branches <= 48 {
+            return put_small(
+                wiring,
+                readings,
+                term_index,
+                term_coefficient,
+                sheet,
+                c,
+                rows,
+                cols,
+                values,
+                limit,
+            );
+        }
+    }
+    put_large(
         wiring,
         readings,
         term_index,
         term_coefficient,
         sheet,
         c,
-        x,
-        &starts,
-        &buses,
-        &sums,
         rows,
         cols,
         values,

@@ -11,10 +11,10 @@ use network::Field;
 use network::Part;
 use network::layout::reading;
 use network::layout::word;
+use snapping::BusState;
 use snapping::angle;
+use snapping::bus_state;
 use snapping::is_fixed_zero_shed;
-use snapping::mu_lb_of;
-use snapping::mu_ub_of;
 use snapping::shed_of;
 use solution::Entry;
 use solution::solved_at;
@@ -29,6 +29,7 @@ ghost use Rattle.network.specs.Numbers.{Wired};
 ghost use Rattle.kkt_index.specs.Index.{Narrow, startIn};
 ghost use Rattle.kkt_index.specs.declared.Block.the-variants.{Va};
 ghost use Rattle.solution.specs.Sheet.{solved};
+ghost use Rattle.snapping.specs.States.{byState};
 ghost use Rattle.kkt.specs.declared.Work.the-variants.{Short};
 ghost use Rattle.kkt.specs.Slots.{Site, columns, turnsOf, flowColumn, pshColumn, lamLbColumn, lamUbColumn, gammaLbColumn, gammaUbColumn, rhoLbColumn, rhoUbColumn, muLbColumn, muUbColumn, nuFlowColumn, etaColumn};
 ghost use Rattle.kkt.specs.Matrix.{kept, emitted};
@@ -95,7 +96,8 @@ fn flow_column(
     }
 }
 
-// psh columns: shedding-bound stationarity (a fixed bus has a unit) and power balance.
+// psh columns: shedding-bound stationarity (a fixed bus has a unit) and power balance. The bus's state
+// is found once for both multipliers.
 fn psh_column(
     wiring: &[u32],
     readings: &[f64],
@@ -109,8 +111,11 @@ fn psh_column(
     ensures { λ t. ⌜ t ≡ triple (itemIn c (now (readings .entry)) (now (sheet .entry)) x) (pshColumn (now (wiring .entry)) i) ⌝ }
 {
     let fixed = is_fixed_zero_shed(wiring, readings, c, i);
-    let lower = mu_lb_of(wiring, readings, sheet, c, x.pieces, i);
-    let upper = mu_ub_of(wiring, readings, sheet, c, x.pieces, i);
+    let cap = shed_cap_at(wiring, readings, c, i);
+    let shed = solved_at(sheet, c, x.pieces, Entry::Psh, i);
+    let lower = solved_at(sheet, c, x.pieces, Entry::MuLb, i);
+    let upper = solved_at(sheet, c, x.pieces, Entry::MuUb, i);
+    let state = bus_state(cap, shed);
     Three {
         first: entry(
             x,
@@ -118,7 +123,7 @@ fn psh_column(
             i,
             Block::Psh,
             i,
-            if_fixed(fixed, 1.0, lower),
+            if_fixed(fixed, 1.0, by_state(state, lower - upper, lower, 0.0, 0.0)),
         ),
         second: entry(
             x,
@@ -126,9 +131,21 @@ fn psh_column(
             i,
             Block::Psh,
             i,
-            if_fixed(fixed, 0.0, -upper),
+            if_fixed(fixed, 0.0, -by_state(state, 0.0, 0.0, upper, 0.0)),
         ),
         third: entry(x, Block::NuBal, i, Block::Psh, i, 1.0),
+    }
+}
+
+// One of four values, by the state of a bus.
+fn by_state(s: BusState, fixed: f64, zero: f64, cap: f64, between: f64) -> f64
+    ensures { λ r. ⌜ r ≡ byState s fixed zero cap between ⌝ }
+{
+    match s {
+        BusState::Fixed => fixed,
+        BusState::AtZero => zero,
+        BusState::AtCap => cap,
+        BusState::Between => between,
     }
 }
 

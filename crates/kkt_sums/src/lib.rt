@@ -18,16 +18,15 @@ pub fn taken(less: bool, v: f64) -> f64
     if less { -v } else { v }
 }
 
-// The sum of column i, at a place from a start on, in a column of the matrix: none where it is zero.
-fn sum_item(less: bool, acc: &[f64], from: usize, col: usize, i: usize) -> Item
-    requires { ⌜ (i < length (now acc)) × (from ≤ 0x2_0000) × (col ≤ 0x2_0000) × (i ≤ 256) ⌝ }
-    ensures { λ t. ⌜ t ≡ sumItem less (now (acc .entry)) from col i ⌝ }
+// Sum i, at row i of a column: none where it is zero.
+fn sum_item(acc: &[f64], col: usize, i: usize) -> Item
+    requires { ⌜ (i < length (now acc)) × (col ≤ 256) × (i ≤ 256) ⌝ }
+    ensures { λ t. ⌜ t ≡ sumItem false (now (acc .entry)) 0 col i ⌝ }
 {
-    let value = taken(less, acc[i]);
-    let row = from + i;
+    let value = acc[i];
     Item {
         keep: value != 0.0,
-        row: row as u32,
+        row: i as u32,
         col: col as u32,
         value,
     }
@@ -36,9 +35,7 @@ fn sum_item(less: bool, acc: &[f64], from: usize, col: usize, i: usize) -> Item
 // Sums a to a + b - 1, which are all +0 where they are not on.
 fn put_sum_span(
     on: bool,
-    less: bool,
     acc: &[f64],
-    from: usize,
     col: usize,
     a: usize,
     b: usize,
@@ -48,11 +45,11 @@ fn put_sum_span(
     limit: usize,
     at: usize,
 ) -> usize
-    requires { ⌜ (a + b ≤ length (now acc)) × (a + b ≤ 256) × (from ≤ 0x2_0000) × (col ≤ 0x2_0000) ⌝ }
+    requires { ⌜ (a + b ≤ length (now acc)) × (a + b ≤ 256) × (col ≤ 256) ⌝ }
     requires { ⌜ (on ≡ false → (i : ℕ) → i < b → getD (now acc) (a + i) nan ≡ nought) ⌝ }
     requires { ⌜ at < 0x1000_0000 ⌝ }
     requires { ⌜ Room limit (held rows cols values at) ⌝ }
-    ensures { λ k. ⌜ Puts limit (spanOf less (now (acc .entry)) from col a b) (held (rows .entry) (cols .entry) (values .entry) at) (held (rows .exit) (cols .exit) (values .exit) k) ⌝ }
+    ensures { λ k. ⌜ Puts limit (spanOf false (now (acc .entry)) 0 col a b) (held (rows .entry) (cols .entry) (values .entry) at) (held (rows .exit) (cols .exit) (values .exit) k) ⌝ }
     ensures most { λ k. ⌜ k ≤ at + b ⌝ }
 {
     let mut k = at;
@@ -60,14 +57,7 @@ fn put_sum_span(
         return k;
     }
     for i in 0..b {
-        k = put(
-            rows,
-            cols,
-            values,
-            limit,
-            k,
-            sum_item(less, acc, from, col, a + i),
-        );
+        k = put(rows, cols, values, limit, k, sum_item(acc, col, a + i));
     }
     k
 }
@@ -75,10 +65,8 @@ fn put_sum_span(
 // The first n sums, by blocks of 16: a block that is not marked has none other than +0.
 pub fn put_sums(
     n: usize,
-    less: bool,
     acc: &[f64],
     hit: &[u32],
-    from: usize,
     col: usize,
     rows: &mut [u32],
     cols: &mut [u32],
@@ -86,11 +74,11 @@ pub fn put_sums(
     limit: usize,
     at: usize,
 ) -> usize
-    requires { ⌜ (n ≤ 256) × (n ≤ length (now acc)) × (16 ≤ length (now hit)) × (from ≤ 0x2_0000) × (col ≤ 0x2_0000) ⌝ }
+    requires { ⌜ (n ≤ 256) × (n ≤ length (now acc)) × (16 ≤ length (now hit)) × (col ≤ 256) ⌝ }
     requires { ⌜ ((i : ℕ) → i < n → getD (now hit) (i / 16) 0 ≡ 0 → getD (now acc) i nan ≡ nought) ⌝ }
     requires { ⌜ at < 0x800_0000 ⌝ }
     requires { ⌜ Room limit (held rows cols values at) ⌝ }
-    ensures { λ k. ⌜ Puts limit (spanOf less (now (acc .entry)) from col 0 n) (held (rows .entry) (cols .entry) (values .entry) at) (held (rows .exit) (cols .exit) (values .exit) k) ⌝ }
+    ensures { λ k. ⌜ Puts limit (spanOf false (now (acc .entry)) 0 col 0 n) (held (rows .entry) (cols .entry) (values .entry) at) (held (rows .exit) (cols .exit) (values .exit) k) ⌝ }
     ensures most { λ k. ⌜ k ≤ at + n ⌝ }
 {
     let mut k = at;
@@ -99,9 +87,7 @@ pub fn put_sums(
         let a = 16 * q;
         k = put_sum_span(
             hit[q] != 0,
-            less,
             acc,
-            from,
             col,
             a,
             least(16, n - a),

@@ -16,64 +16,58 @@ use Rattle.kkt_buses.proofs.put_angles.Statement.{statement}
 use Rattle.kkt_buses.proofs.put_angles.Tie as tie
 
 abbrev Inv-loop : tie.InvT-loop
-Inv-loop wiring readings sheet c x starts buses sums rows₀ cols₀ values₀ limit at head next first later to k₀ j₀ rows cols values k j =
+Inv-loop wiring readings sheet c x head next starts buses sums rows₀ cols₀ values₀ limit at first later to k₀ j₀ rows cols values k j =
     Puts limit (emitted (startIn x) (reading c readings) (solved c (x .pieces) sheet) (each j (vaColumn firstPlace c wiring))) (sheets rows₀ cols₀ values₀ at) (sheets rows cols values k)
-    × (k ≤ at + 5121 * j)
+    × (k ≤ at + 4353 * j)
     × (j ≤ to)
     × (to ≡ c .buses)
     × (to ≤ 256)
 
 abbrev μ-loop : tie.MeasureT-loop
-μ-loop wiring readings sheet c x starts buses sums rows₀ cols₀ values₀ limit at head next first later to k₀ j₀ rows cols values k j = to - j
-
-link-ends-requires : tie.Need-link-ends-requires Inv-loop μ-loop
-link-ends-requires c κs =
-    let s = c .before .before .before .before .before .before .before .before .before .before .before in
-    (s .pre .0 .wired, (omega (arith, s .pre .0 .read .few), omega (arith, s .pre .0 .read .few)))
+μ-loop wiring readings sheet c x head next starts buses sums rows₀ cols₀ values₀ limit at first later to k₀ j₀ rows cols values k j = to - j
 
 link-part-requires : tie.Need-link-part-requires Inv-loop μ-loop
 link-part-requires c κs =
-    let w = c .before .before .before .before .before .before .before .before .before .before .before .before .before .before .before .before .pre .0 .wired in
+    let w = c .before .before .before .before .before .before .before .before .before .before .before .before .before .pre .0 .wired in
     (w .laid, (w .references, (omega (arith, w .laid .few), omega (arith, w .laid .few), omega (arith, w .laid .few))))
 
 loop-holds : tie.Need-loop-holds Inv-loop μ-loop
 loop-holds c =
-    let s = c .before .before .before .before .before .before .before .before .before .before .before .before .before .before .before .before .before .before .before in
+    let s = c .before .before .before .before .before .before .before .before .before .before .before .before .before .before .before .before in
     (puts-begin _ _ _ _, omega arith, omega arith, refl, omega (arith, s .pre .0 .read .few))
 
 put-ends-requires : tie.Need-put-ends-requires Inv-loop μ-loop
 put-ends-requires c κs =
-    let l = c .before .before .before .before .before .before in
-    let e = l .before .before .before .before .before .before .before .before in
-    let s = l .before .before .before .before .before .before .before .before .before .before .before .before .before .before .before .before .before .before .before .before .pre in
+    let l = c .before .before .before .before in
+    let s = l .before .before .before .before .before .before .before .before .before .before .before .before .before .before .before .before .before .pre in
     let i = l .loop .inv in
-    let few = s .0 .read .few in
-    (s .0, (record { links = e .link-ends .ensures; heads-fit = omega (arith, e .link-ends .kept, few); nexts-fit = omega (arith, e .link-ends .kept, few) }, ((omega (arith, i, c .before .before .before .before .before .loop-test), omega (arith, i, s .1 .1 .0)), room-kept (s .1 .1 .1) (i .0) (omega (arith, i, s .1 .1 .0)))))
+    (s .0, (s .1 .0, ((omega (arith, i, c .before .before .before .loop-test), omega (arith, i, s .1 .1 .1 .0)), room-kept (s .1 .1 .1 .1) (i .0) (omega (arith, i, s .1 .1 .1 .0)))))
 
 put-angle-rest-requires : tie.Need-put-angle-rest-requires Inv-loop μ-loop
 put-angle-rest-requires c κs =
     let p = c .before .before .before .before .before .before .before .before .before .before .before in
-    let l = p .before .before .before .before .before .before .before in
+    let l = p .before .before .before .before .before in
     let f = l .before .before .before in
-    let s = l .before .before .before .before .before .before .before .before .before .before .before .before .before .before .before .before .before .before .before .before .pre in
+    let s = l .before .before .before .before .before .before .before .before .before .before .before .before .before .before .before .before .before .pre in
     let i = l .loop .inv in
     let few = s .0 .read .few in
     let n = p .put-ends .ensures .1 in
-    (s .0, (s .1 .0, (f .link-part .ensures, ((omega (arith, f .link-part .kept, few), omega (arith, i, p .before .before .before .before .before .before .loop-test), omega (arith, i, n, s .1 .1 .0)), room-kept (room-kept (s .1 .1 .1) (i .0) (omega (arith, i, s .1 .1 .0))) (p .put-ends .ensures .0) (omega (arith, i, n, s .1 .1 .0))))))
+    let at = s .1 .1 .1 .0 in
+    (s .0, (s .1 .1 .0, (f .link-part .ensures, ((omega (arith, f .link-part .kept, few), omega (arith, i, p .before .before .before .before .loop-test), omega (arith, i, n, at)), room-kept (room-kept (s .1 .1 .1 .1) (i .0) (omega (arith, i, at))) (p .put-ends .ensures .0) (omega (arith, i, n, at))))))
 
 add-j : tie.Need-add-j Inv-loop μ-loop
-add-j c = omega (arith, c .before .before .before .before .before .before .before .before .before .before .before .before .before .before .before .before .before .before .before .before .before .before .before .before .before .loop .inv)
+add-j c = omega (arith, c .before .before .before .before .before .before .before .before .before .before .before .before .before .before .before .before .before .before .before .before .before .before .before .loop .inv)
 
 loop-less : tie.Need-loop-less Inv-loop μ-loop
-loop-less c = omega (arith, c .before .before .before .before .before .before .before .before .before .before .before .before .before .before .before .before .before .before .before .before .before .before .before .before .before .loop .inv, c .before .before .before .before .before .before .before .before .before .before .before .before .before .before .before .before .before .before .before .before .before .before .before .before .loop-test)
+loop-less c = omega (arith, c .before .before .before .before .before .before .before .before .before .before .before .before .before .before .before .before .before .before .before .before .before .before .before .loop .inv, c .before .before .before .before .before .before .before .before .before .before .before .before .before .before .before .before .before .before .before .before .before .before .loop-test)
 
 loop-again : tie.Need-loop-again Inv-loop μ-loop
 loop-again c =
     let q = c .before .before .before .before .before .before in
     let p = q .before .before .before .before .before .before .before .before .before .before .before .before in
-    let l = p .before .before .before .before .before .before .before in
+    let l = p .before .before .before .before .before in
     let i = l .loop .inv in
-    (puts-more _ _ _ _ (l .loop .j) (i .0) (puts-then _ _ _ _ _ (p .put-ends .ensures .0) (q .put-angle-rest .ensures .0)), omega (arith, i, p .put-ends .ensures .1, q .put-angle-rest .ensures .1), omega (arith, i, p .before .before .before .before .before .before .loop-test), i .3, i .4)
+    (puts-more _ _ _ _ (l .loop .j) (i .0) (puts-then _ _ _ _ _ (p .put-ends .ensures .0) (q .put-angle-rest .ensures .0)), omega (arith, i, p .put-ends .ensures .1, q .put-angle-rest .ensures .1), omega (arith, i, p .before .before .before .before .loop-test), i .3, i .4)
 
 returns : tie.Need-returns Inv-loop μ-loop
 returns c =
@@ -88,13 +82,8 @@ put-angles-spec =
     μ-loop
     (λ c. omega arith)
     (λ c. omega arith)
-    link-ends-requires
-    (λ c. omega arith)
-    (λ c. omega arith)
     link-part-requires
     loop-holds
-    (λ c. omega arith)
-    (λ c. omega arith)
     put-ends-requires
     (λ c. omega arith)
     (λ c. omega arith)

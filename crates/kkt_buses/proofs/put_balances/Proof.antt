@@ -17,7 +17,7 @@ use Rattle.kkt_buses.proofs.put_balances.Tie as tie
 abbrev Inv-loop : tie.InvT-loop
 Inv-loop wiring readings sheet c x starts buses sums rows₀ cols₀ values₀ limit at first later to k₀ i₀ rows cols values k i =
     Puts limit (emitted (startIn x) (reading c readings) (solved c (x .pieces) sheet) (each i (nuBalColumn c wiring))) (sheets rows₀ cols₀ values₀ at) (sheets rows cols values k)
-    × (k ≤ at + 2305 * i)
+    × (k ≤ at + 1537 * i)
     × (i ≤ to)
     × (to ≡ c .buses)
     × (to ≤ 256)

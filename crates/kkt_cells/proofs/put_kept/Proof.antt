@@ -17,7 +17,7 @@ Inv-loop wiring readings sheet less starts buses sums j rows₀ cols₀ values�
     × (k ≤ at + (t - first))
     × (first ≤ t)
     × (t ≤ to)
-    × (to ≤ 2048)
+    × (to ≤ 1280)
     × (to ≤ length buses)
     × (to ≤ length sums)
 

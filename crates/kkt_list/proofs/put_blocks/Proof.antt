@@ -15,13 +15,13 @@ use Rattle.kkt_list.proofs.put_blocks.Statement.{statement}
 use Rattle.kkt_list.proofs.put_blocks.Tie as tie
 
 abbrev Inv-loop : tie.InvT-loop
-Inv-loop wiring readings term-index term-coefficient sheet c x starts buses sums rows₀ cols₀ values₀ limit at₀ k₀ rows cols values at k =
+Inv-loop wiring readings term-index term-coefficient sheet c x head next starts buses sums rows₀ cols₀ values₀ limit at₀ k₀ rows cols values at k =
     Puts limit (emitted (startIn x) (reading c readings) (solved c (x .pieces) sheet) (each k (λ k. blockSlots (siteOf firstPlace c wiring readings term-index term-coefficient) (emissionAt k)))) (sheets rows₀ cols₀ values₀ 0) (sheets rows cols values at)
     × (at ≤ 0x18_0000 * k)
     × (k ≤ 18)
 
 abbrev μ-loop : tie.MeasureT-loop
-μ-loop wiring readings term-index term-coefficient sheet c x starts buses sums rows₀ cols₀ values₀ limit at₀ k₀ rows cols values at k = 18 - k
+μ-loop wiring readings term-index term-coefficient sheet c x head next starts buses sums rows₀ cols₀ values₀ limit at₀ k₀ rows cols values at k = 18 - k
 
 loop-holds : tie.Need-loop-holds Inv-loop μ-loop
 loop-holds c = (puts-begin _ _ _ _, omega arith, omega arith)
@@ -30,8 +30,8 @@ put-block-requires : tie.Need-put-block-requires Inv-loop μ-loop
 put-block-requires c κs =
     let i = c .before .before .before .before .before .loop .inv in
     let t = c .before .before .before .before .loop-test in
-    let s = c .before .before .before .before .before .before .before .before .before .before .before .before .before .before .before .before .before .pre in
-    (s .0, (s .1 .0, (s .1 .1 .0, (omega (arith, i, t), room-kept (s .1 .1 .1) (i .0) (omega (arith, i, t))))))
+    let s = c .before .before .before .before .before .before .before .before .before .before .before .before .before .before .before .before .before .before .before .pre in
+    (s .0, (s .1 .0, (s .1 .1 .0, (s .1 .1 .1 .0, (omega (arith, i, t), room-kept (s .1 .1 .1 .1) (i .0) (omega (arith, i, t)))))))
 
 loop-again : tie.Need-loop-again Inv-loop μ-loop
 loop-again c =

@@ -36,7 +36,7 @@ short-column-requires c κs =
     let l = c .before .before .before in
     let t = l .before .before in
     let s = t .before .before .before .before .before .before .before in
-    (s .pre .0, (s .pre .1 .0, rw (t .turns-of .ensures) at (l .loop-test .taken)))
+    (s .pre .0, (s .pre .1 .0, omega (arith, t .turns-of .ensures, l .loop-test)))
 
 put-three-requires : tie.Need-put-three-requires Inv-loop μ-loop
 put-three-requires c κs =

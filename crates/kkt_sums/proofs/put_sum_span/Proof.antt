@@ -1,5 +1,6 @@
 -- `kkt_sums::put_sum_span` meets its contract: a sum more each turn. Assumes nothing.
 use Prim.Native.Nat.{_+_, _-_, _≤_}
+use mathlib.Core.Bool.{false}
 use native.Mathlib.Omega.{arith}
 use borrow.Author.Tests.{not-true}
 use Rattle.sequence.specs.Lists.{each}
@@ -11,16 +12,16 @@ use Rattle.kkt_sums.proofs.put_sum_span.Statement.{statement}
 use Rattle.kkt_sums.proofs.put_sum_span.Tie as tie
 
 abbrev Inv-loop : tie.InvT-loop
-Inv-loop on less acc from col a b rows₀ cols₀ values₀ limit at k₀ i₀ rows cols values k i =
-    Puts limit (each i (λ i. emit (sumItem less acc from col (a + i)))) (sheets rows₀ cols₀ values₀ at) (sheets rows cols values k) × (k ≤ at + i) × (i ≤ b)
+Inv-loop on acc col a b rows₀ cols₀ values₀ limit at k₀ i₀ rows cols values k i =
+    Puts limit (each i (λ i. emit (sumItem false acc 0 col (a + i)))) (sheets rows₀ cols₀ values₀ at) (sheets rows cols values k) × (k ≤ at + i) × (i ≤ b)
 
 abbrev μ-loop : tie.MeasureT-loop
-μ-loop on less acc from col a b rows₀ cols₀ values₀ limit at k₀ i₀ rows cols values k i = b - i
+μ-loop on acc col a b rows₀ cols₀ values₀ limit at k₀ i₀ rows cols values k i = b - i
 
 returns : tie.Need-returns Inv-loop μ-loop
 returns c =
     let s = c .before .before .before .before .before in
-    (rw (span-none (s .args .less) _ (s .args .from) (s .args .col) (s .args .a) (s .args .b) (s .pre .1 .0 (not-true _ (c .if1 .taken)))) none, omega arith)
+    (rw (span-none false _ 0 (s .args .col) (s .args .a) (s .args .b) (s .pre .1 .0 (not-true _ (c .if1 .taken)))) none, omega arith)
 
 loop-holds : tie.Need-loop-holds Inv-loop μ-loop
 loop-holds c = (begin _, omega arith, omega arith)

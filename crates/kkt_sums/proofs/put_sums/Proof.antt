@@ -1,6 +1,7 @@
 -- `kkt_sums::put_sums` meets its contract: a block more each turn. Assumes nothing.
 use Prim.Native.Nat.{_+_, _-_, _*_, _/_, _≤_, min}
 use mathlib.Core.Path.{_≡_}
+use mathlib.Core.Bool.{false}
 use native.Mathlib.Omega.{arith}
 use borrow.Author.Tests.{not-false, eqb-true}
 use Rattle.sequence.specs.Lists.{each}
@@ -12,11 +13,11 @@ use Rattle.kkt_sums.proofs.put_sums.Statement.{statement}
 use Rattle.kkt_sums.proofs.put_sums.Tie as tie
 
 abbrev Inv-loop : tie.InvT-loop
-Inv-loop n less acc hit from col rows₀ cols₀ values₀ limit at k₀ blocks q₀ rows cols values k q =
-    Puts limit (each (min (16 * q) n) (λ i. emit (sumItem less acc from col i))) (sheets rows₀ cols₀ values₀ at) (sheets rows cols values k) × (k ≤ at + min (16 * q) n) × (q ≤ blocks)
+Inv-loop n acc hit col rows₀ cols₀ values₀ limit at k₀ blocks q₀ rows cols values k q =
+    Puts limit (each (min (16 * q) n) (λ i. emit (sumItem false acc 0 col i))) (sheets rows₀ cols₀ values₀ at) (sheets rows cols values k) × (k ≤ at + min (16 * q) n) × (q ≤ blocks)
 
 abbrev μ-loop : tie.MeasureT-loop
-μ-loop n less acc hit from col rows₀ cols₀ values₀ limit at k₀ blocks q₀ rows cols values k q = blocks - q
+μ-loop n acc hit col rows₀ cols₀ values₀ limit at k₀ blocks q₀ rows cols values k q = blocks - q
 
 loop-holds : tie.Need-loop-holds Inv-loop μ-loop
 loop-holds c =

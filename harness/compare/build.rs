@@ -3,8 +3,8 @@
 use std::env;
 use std::path::PathBuf;
 
-/// `libNAME.a` each; exports of the model, exports of the matrix.
-const LIBRARIES: [&str; 2] = ["capi", "capi_sens"];
+/// `libNAME.a` each; exports of the model, of the matrix, of site changes.
+const LIBRARIES: [&str; 3] = ["capi", "capi_sens", "capi_change"];
 
 fn main() {
     println!("cargo:rerun-if-changed=build.rs");

@@ -1,5 +1,5 @@
--- The calls that fill a sheet, on bytes: how long a solution and each result are at most, and the laws of such a call's answer.
--- Main results: `long-few`, `solved-answer`, `solved-count`, `solved-one`. Assumes nothing.
+-- The calls that fill a sheet, on bytes: how long each result is at most, and the laws of such a call's answer.
+-- Main results: `solved-answer`, `solved-count`, `solved-one`. Assumes nothing.
 use mathlib.Core.Path.{_≡_}
 use mathlib.Core.Bool.{Bool, true, false, _&&_}
 use mathlib.Core.List.{List, [], _∷_}
@@ -7,14 +7,11 @@ use Prim.Native.Nat.{ℕ, _≤_}
 use native.Mathlib.Omega.{arith}
 use lib.ListN.{length}
 use lib.Ieee.{Float}
-use borrow.Author.Tests.{eqb-true}
 use Rattle.sequence.specs.Answers.{test, firstOf, marked, short, filled}
 use Rattle.sequence.proofs.Lists.{made-length}
 use Rattle.words.specs.Words.{doublesOf}
 use Rattle.network.specs.Numbers.{Network, sizesHold}
-use Rattle.network.proofs.Tests.{sized-few}
 use Rattle.snapping.specs.Snap.{snapSheet, dualSheet, nuFlowSheet}
-use Rattle.solution.specs.Sheet.{sheetLength}
 use Rattle.solution_check.specs.Tests.{counted, piecesOf, solutionLong, solutionHolds, solutionTests}
 use Rattle.solution_check.proofs.Own.{few-pieces}
 use Rattle.sens_snap.specs.Calls.{snapNumber, sheetCall}
@@ -24,12 +21,6 @@ use Rattle.decoding.specs.Decoding.{Cells}
 use Rattle.decoding.proofs.Answered.{passed-network, few-counts, sheet-answer, sheet-count, sheet-one}
 
 -- ---- lengths
-
-pub long-few : (N : Network) (s : List Float) → sizesHold N ≡ true → solutionLong N s ≡ true → length s ≤ 6017
-unfolding solutionLong
-long-few N s h e =
-    let l : length s ≡ sheetLength (counted N) (piecesOf N) = eqb-true _ _ e in
-    omega (arith, l, sized-few N h, few-pieces (counted N) (N .wiring))
 
 module _ (N : Network) (s : List Float) (z : firstOf (solutionTests true N s) ≡ 0) where
   pub snap-few : length (snapSheet (counted N) (N .wiring) (piecesOf N) (N .readings) s) ≤ 6017

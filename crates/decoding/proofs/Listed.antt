@@ -60,7 +60,8 @@ module _ (ts : List Test) (m : T (marked ts)) (list : List Triplet) where
   listTested r c v = firstOf (ts ++ test 7 (shortList list r c v) ∷ [])
 
   module _ (most : ℕ) (small : firstOf ts ≡ 0 → length list ≤ most) (R C X : List ℕ) (r c : List ℕ) (v : List Float) (cells : ListCells most (length R) (length C) (length X) (length r) (length c) (length v)) where
-    rooms : firstOf ts ≡ 0 → shortList list r c v ≡ shortList list (wordsOf R) (wordsOf C) (doublesOf X)
+    -- cells and the sheets' own words have the same room for a list that is short
+    pub rooms : firstOf ts ≡ 0 → shortList list r c v ≡ shortList list (wordsOf R) (wordsOf C) (doublesOf X)
     rooms z =
         short-same (room r c v) (room (wordsOf R) (wordsOf C) (doublesOf X)) (length list)
         (λ l. simp made-length (min-right most _ (rw (cells .in-rows) at (min-left (length r) _ l))))

@@ -1,5 +1,5 @@
 -- A call's own tests beside the network's: a size that is only asked where the network's hold, and values that are tested after all else.
--- Main results: `own-size`, `later-stands`, `later-passes`, `solved`. Assumes nothing.
+-- Main results: `own-size`, `later-stands`, `later-passes`, `solved`, `long-few`. Assumes nothing.
 use mathlib.Core.Path.{_≡_, refl, sym, subst, _∙_}
 use mathlib.Core.Bool.{Bool, true, false, cond, not, _&&_}
 use mathlib.Core.List.{List, [], _∷_}
@@ -14,9 +14,10 @@ use Rattle.sequence.proofs.Lists.{before-bound}
 use Rattle.network.specs.declared.Counts.{Counts}
 use Rattle.network.specs.Layout.{segmentsAt, countsOf}
 use Rattle.network.specs.Numbers.{Network, sizesHold, wiringHolds, readingsHold, networkTests, Accepted}
+use Rattle.network.proofs.Tests.{sized-few}
 use Rattle.model.proofs.Calls.{own-sizes}
-use Rattle.solution.specs.Sheet.{piece, pieceRank, pieces, SheetLaid}
-use Rattle.solution_check.specs.Tests.{solutionLong, Solved}
+use Rattle.solution.specs.Sheet.{piece, pieceRank, pieces, sheetLength, SheetLaid}
+use Rattle.solution_check.specs.Tests.{counted, piecesOf, solutionLong, Solved}
 
 -- no test both holds and fails
 pub apart : (b : Bool) → b ≡ true → b ≡ false → ⊥
@@ -77,3 +78,10 @@ solved N s a e = record {
   accepted = a;
   laid = record { few = a .wired .laid .few; few-pieces = few-pieces (countsOf (N .wiring)) (N .wiring); long = eqb-true _ _ e };
 }
+
+-- the longest sheet: 5n + 3k + 5m + p + S + 2q + 1 at the greatest counts
+pub long-few : (N : Network) (s : List Float) → sizesHold N ≡ true → solutionLong N s ≡ true → length s ≤ 6017
+unfolding solutionLong
+long-few N s h e =
+    let l : length s ≡ sheetLength (counted N) (piecesOf N) = eqb-true _ _ e in
+    omega (arith, l, sized-few N h, few-pieces (counted N) (N .wiring))

@@ -3,6 +3,8 @@
 //! An export is timed whole: decoding the bytes, testing the network and writing the result. The
 //! original is handed its own structures, built beforehand, and tests nothing.
 
+mod change;
+
 use oracle::{Differentiable, Network, Oracle};
 use std::hint::black_box;
 use std::time::Instant;
@@ -224,5 +226,8 @@ fn main() {
     }
     for (n, m, k) in [(20, 30, 8), (256, 512, 256)] {
         matrix(n, m, k);
+    }
+    for (n, m, k) in [(20, 30, 8), (256, 512, 256)] {
+        change::change(n, m, k);
     }
 }

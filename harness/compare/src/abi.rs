@@ -492,11 +492,11 @@ impl Out {
 }
 
 /// The greatest input slice in bytes; no network drawn comes near it.
-const SLOT: usize = 1 << 18;
+pub const SLOT: usize = 1 << 18;
 /// At least one page of any machine.
 const GUARD_PAGE: usize = 1 << 16;
 /// Bytes before and after a lent output.
-const GUARD: usize = 64;
+pub const GUARD: usize = 64;
 /// The matrix of the greatest network has at most 27,552 triplets.
 const POOL: usize = 1 << 18;
 
@@ -506,13 +506,18 @@ struct Slot {
     length: usize,
 }
 
+/// The end of `SLOT` bytes, behind which nothing may be touched.
+pub fn guarded_end() -> *mut u8 {
+    #[cfg(target_os = "linux")]
+    let start = watch::guarded(SLOT, GUARD_PAGE);
+    #[cfg(not(target_os = "linux"))]
+    let start = Box::leak(vec![0u8; SLOT + GUARD_PAGE].into_boxed_slice()).as_mut_ptr();
+    unsafe { start.add(SLOT) }
+}
+
 impl Slot {
     fn new() -> Slot {
-        #[cfg(target_os = "linux")]
-        let start = watch::guarded(SLOT, GUARD_PAGE);
-        #[cfg(not(target_os = "linux"))]
-        let start = Box::leak(vec![0u8; SLOT + GUARD_PAGE].into_boxed_slice()).as_mut_ptr();
-        Slot { end: unsafe { start.add(SLOT) }, length: 0 }
+        Slot { end: guarded_end(), length: 0 }
     }
 
     fn fill(&mut self, bytes: &[u8]) {

@@ -8,8 +8,8 @@ use crate::damage::{broken_double, Fault};
 use crate::generate::{sheet_value, value};
 use crate::marks::mark_call;
 use crate::paper::{
-    self, bytes_of_doubles, double, within, word, Blocks, Count, Field, Held, Lent, Shape, Wire,
-    READING_LIMIT, SHEET_LIMIT, SLICE_NAMES,
+    self, bytes_of_doubles, bytes_of_words, double, within, word, Blocks, Count, Field, Held, Lent,
+    Shape, Wire, READING_LIMIT, SHEET_LIMIT, SLICE_NAMES,
 };
 use crate::random::Rng;
 use crate::report::{Coverage, Mismatch};
@@ -60,6 +60,18 @@ impl Site {
     pub fn reading(&self, field: Field, place: usize) -> f64 {
         double(&self.lent.readings, self.shape().field_range(field).start + place)
     }
+}
+
+/// The paper's bench network as lent, and its solution sheet.
+pub fn bench() -> (Lent, Vec<f64>) {
+    let (net, solution) = oracle::bench_network();
+    let lent = Lent {
+        wiring: bytes_of_words(&net.wiring),
+        readings: bytes_of_doubles(&net.readings),
+        term_index: bytes_of_words(&net.term_index),
+        term_coefficient: bytes_of_doubles(&net.term_coefficient),
+    };
+    (lent, solution)
 }
 
 /// What a lent output holds.

@@ -1,6 +1,6 @@
 //! Every way to break one rule of numbers 1 to 3, alone or two at a time.
 
-use crate::generate::{above, below, Sizes};
+use crate::generate::{above, below, parts, Sizes};
 use crate::paper::{
     set_word, word, Count, Field, Lent, Parts, Wire, ALLOW_SHED, BASE_HIGH, BASE_LOW, HEAD,
     OBJECTIVE, READING_LIMIT,
@@ -358,6 +358,23 @@ impl Damage {
             _ => {}
         }
     }
+}
+
+/// A network of about these sizes with these damages: first sizes, then words, then lengths.
+pub fn damaged(rng: &mut Rng, mut sizes: Sizes, damages: &[(Damage, Place)]) -> Lent {
+    for (damage, place) in damages {
+        damage.size_up(*place, &mut sizes);
+    }
+    sizes.fit();
+    let mut parts = parts(rng, &sizes);
+    for (damage, place) in damages {
+        damage.break_parts(*place, rng, &mut parts);
+    }
+    let mut lent = parts.encode();
+    for (damage, _) in damages {
+        damage.break_slices(rng, &mut lent);
+    }
+    lent
 }
 
 fn slice_name(slice: Slice) -> &'static str {

@@ -67,12 +67,17 @@ impl Sizes {
 const SMALL: [usize; 7] = [7, 12, 6, 4, 9, 6, 14];
 const MEDIUM: [usize; 7] = [40, 80, 40, 16, 100, 30, 100];
 
+/// The most of each count in most runs of changes.
+const RUN_MOST: [usize; 7] = [8, 10, 5, 3, 5, 3, 6];
+
 /// One of this many cases takes each count to its limit.
 const LIMIT_TURN: u64 = 250;
 /// One of this many cases takes all counts to their limits.
 const FULL_TURN: u64 = 4000;
 /// One of this many networks for solution sheets has all counts at their limits.
 const LARGEST_TURN: u64 = 80;
+/// One of this many runs of changes has all counts at their limits.
+const RUN_TURN: u64 = 1000;
 
 /// Sizes of the case with this serial number: mostly small, each limit in its turn.
 pub fn sizes(rng: &mut Rng, serial: u64) -> Sizes {
@@ -98,6 +103,23 @@ pub fn solved_sizes(rng: &mut Rng, serial: u64) -> Sizes {
         for count in Count::ALL {
             sizes.set(count, count.limit());
         }
+    }
+    sizes.fit();
+    sizes
+}
+
+/// Sizes of a network for a run of changes: mostly of a few buses, medium or all at their limits
+/// in their turn.
+pub fn run_sizes(rng: &mut Rng, serial: u64) -> Sizes {
+    let mut sizes = Sizes { counts: [0; 7], flow_terms: 0, generation_terms: 0 };
+    for count in Count::ALL {
+        let size = match serial % RUN_TURN {
+            0 => count.limit(),
+            turn if turn % 50 == 1 => rng.between(2, MEDIUM[count as usize]),
+            _ if count == Count::Buses => rng.between(1, RUN_MOST[0]),
+            _ => rng.below(RUN_MOST[count as usize] + 1),
+        };
+        sizes.set(count, size);
     }
     sizes.fit();
     sizes

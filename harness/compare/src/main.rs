@@ -12,6 +12,7 @@ mod paper;
 mod random;
 mod record;
 mod report;
+mod runs;
 mod shrink;
 mod solutions;
 mod states;
@@ -28,18 +29,22 @@ use marks::mark_network;
 use paper::{bytes_of_doubles, bytes_of_words, Count, Lent};
 use random::Rng;
 use report::{Coverage, Mismatch, FLOOR, SHEET_FLOOR};
+use runs::Runs;
 
 const HELP: &str = "\
 compare: runs the exports beside the original Rust on generated networks
 
   --cases N     at least N good and N damaged networks, and half as many good ones on which
-                only the calls with a solution sheet run, near their thresholds (200000)
+                only the calls with a solution sheet run, near their thresholds, and a
+                sixth as many runs of site changes (200000)
   --seconds N   stop after N seconds, which is a failure before --cases is reached (240)
   --seed S      another seed gives other networks (1)
   --quick       neither the time bound nor the coverage floors count as failures
   --record N FILE
                 compares nothing, but writes N small networks with solution sheets and the
                 original's matrix of each to FILE, one a line
+  --program FILE
+                compares no exports, but what the program sitechange, built as FILE, prints
   --help        this text
 
 Prints what was covered and one summary line. Exit code 0 if every call did what it must.";
@@ -50,10 +55,18 @@ struct Options {
     seed: u64,
     quick: bool,
     record: Option<(u64, String)>,
+    program: Option<String>,
 }
 
 fn options() -> Result<Option<Options>, String> {
-    let mut options = Options { cases: 200_000, seconds: 240, seed: 1, quick: false, record: None };
+    let mut options = Options {
+        cases: 200_000,
+        seconds: 240,
+        seed: 1,
+        quick: false,
+        record: None,
+        program: None,
+    };
     let mut words = std::env::args().skip(1);
     while let Some(option) = words.next() {
         let mut number = || -> Result<u64, String> {
@@ -70,6 +83,7 @@ fn options() -> Result<Option<Options>, String> {
                 let file = words.next().ok_or("--record needs a file")?;
                 options.record = Some((count, file));
             }
+            "--program" => options.program = Some(words.next().ok_or("--program needs a file")?),
             "--help" | "-h" => return Ok(None),
             _ => return Err(format!("unknown option {}", option)),
         }
@@ -82,6 +96,8 @@ const FURTHER: u64 = 4_000;
 
 /// Numbers of cases with a solution sheet alone start here.
 const SOLVED_CASES: u64 = 1 << 40;
+/// Numbers of runs of site changes start here.
+const RUN_CASES: u64 = 1 << 41;
 
 struct Run {
     seed: u64,
@@ -97,6 +113,7 @@ struct Run {
     calls: u64,
     mismatches: u64,
     smallest: Option<Mismatch>,
+    runs: Runs,
 }
 
 impl Run {
@@ -118,6 +135,7 @@ impl Run {
             calls: 0,
             mismatches: 0,
             smallest: None,
+            runs: Runs::new(),
         }
     }
 
@@ -180,28 +198,29 @@ impl Run {
         }
     }
 
+    /// A run of site changes.
+    fn one_run(&mut self, serial: u64) {
+        let case = RUN_CASES + serial;
+        let mut rng = self.case(case);
+        let origin = self.origin(case);
+        self.runs.one(&mut rng, serial, &self.damages, &origin);
+    }
+
+    fn origin(&self, case: u64) -> String {
+        format!("seed {}, case {}", self.seed, case)
+    }
+
     fn case(&self, case: u64) -> Rng {
         #[cfg(target_os = "linux")]
         watch::note_case(case);
         Rng::new(self.seed, case)
     }
 
-    /// A network with these damages: first sizes, then words, then lengths.
     fn damage(&self, serial: u64, rng: &mut Rng, kinds: &[(usize, Place)]) -> Site {
-        let mut sizes = generate::sizes(rng, serial);
-        for &(kind, place) in kinds {
-            self.damages[kind].size_up(place, &mut sizes);
-        }
-        sizes.fit();
-        let mut parts = generate::parts(rng, &sizes);
-        for &(kind, place) in kinds {
-            self.damages[kind].break_parts(place, rng, &mut parts);
-        }
-        let mut lent = parts.encode();
-        for &(kind, _) in kinds {
-            self.damages[kind].break_slices(rng, &mut lent);
-        }
-        Site::new(lent)
+        let sizes = generate::sizes(rng, serial);
+        let damages: Vec<_> =
+            kinds.iter().map(|&(kind, place)| (self.damages[kind], place)).collect();
+        Site::new(damage::damaged(rng, sizes, &damages))
     }
 
     /// Makes every call on a network, those with a solution sheet on half of the damaged ones.
@@ -234,7 +253,7 @@ impl Run {
 
     fn keep(&mut self, mut found: Mismatch, case: u64) {
         self.mismatches += 1;
-        found.origin = format!("seed {}, case {}", self.seed, case);
+        found.origin = self.origin(case);
         if self.smallest.as_ref().map_or(true, |least| found.size() < least.size()) {
             self.smallest = Some(found);
         }
@@ -242,13 +261,7 @@ impl Run {
 
     /// The paper's bench network with its sheet, and the network without anything.
     fn fixed(&mut self) {
-        let (bench, solution) = oracle::bench_network();
-        let bench = Lent {
-            wiring: bytes_of_words(&bench.wiring),
-            readings: bytes_of_doubles(&bench.readings),
-            term_index: bytes_of_words(&bench.term_index),
-            term_coefficient: bytes_of_doubles(&bench.term_coefficient),
-        };
+        let (bench, solution) = calls::bench();
         let empty = Lent {
             wiring: bytes_of_words(&[0; paper::HEAD]),
             readings: bytes_of_doubles(&[100.0]),
@@ -266,6 +279,7 @@ impl Run {
                 self.call(place, &site, &args, 0, &mut rng);
             }
         }
+        self.runs.bench();
     }
 }
 
@@ -287,8 +301,11 @@ fn run(options: &Options, run: &mut Run) -> bool {
         if serial % 2 == 0 {
             run.one_solved(serial / 2);
         }
+        if serial % 6 == 0 {
+            run.one_run(serial / 6);
+        }
         serial += 1;
-        if run.mismatches > 0 && last == u64::MAX {
+        if run.mismatches + run.runs.mismatches > 0 && last == u64::MAX {
             last = serial + FURTHER;
         }
     }
@@ -302,13 +319,13 @@ fn compare(options: &Options) -> bool {
     let mut tally = Run::new(options.seed);
     let in_time = run(options, &mut tally);
     let time = start.elapsed();
-    let low = tally.cover.print(&tally.damages);
+    let low = tally.cover.print(&tally.damages) + tally.runs.print();
     if let Some(mismatch) = tally.smallest.take() {
         shrink::shrink(mismatch, &mut tally.memory, options.seed).print();
     }
     if low > 0 {
         println!(
-            "coverage: {} rows below the floor of {} ({} for solution sheets)",
+            "coverage: {} rows below the floor of {} ({} for solution sheets and runs of changes)",
             low, FLOOR, SHEET_FLOOR
         );
     }
@@ -328,11 +345,13 @@ fn compare(options: &Options) -> bool {
         tally.largest,
         tally.damaged_sheets
     );
+    println!("runs of changes: {}, {} changes", tally.runs.count(), tally.runs.calls());
+    let mismatches = tally.mismatches + tally.runs.mismatches;
     println!(
         "compare: {} good and {} damaged networks, {} calls, {} mismatches",
-        tally.good, tally.damaged, tally.calls, tally.mismatches
+        tally.good, tally.damaged, tally.calls, mismatches
     );
-    tally.mismatches == 0 && (options.quick || (low == 0 && in_time))
+    mismatches == 0 && (options.quick || (low == 0 && in_time))
 }
 
 fn main() -> ExitCode {
@@ -357,6 +376,18 @@ fn main() -> ExitCode {
             Err(error) => {
                 eprintln!("compare: {}: {}", file, error);
                 ExitCode::from(2)
+            }
+        };
+    }
+    if let Some(program) = &options.program {
+        return match runs::program::hold(program) {
+            Ok(inputs) => {
+                println!("sitechange: {} inputs, 0 mismatches", inputs);
+                ExitCode::SUCCESS
+            }
+            Err(error) => {
+                println!("sitechange: mismatch {}", error);
+                ExitCode::FAILURE
             }
         };
     }

@@ -4,6 +4,9 @@
 use std::collections::BTreeMap;
 use std::slice::from_raw_parts;
 
+#[path = "mock_change.rs"]
+mod change;
+
 type Pointer = *const u8;
 type Term = (u32, f64);
 
@@ -363,16 +366,28 @@ export!(capi_kkt_triplets(
     cols: *mut u8, cols_length: usize, values: *mut u8, values_length: usize
 ) lent, site =>
     solved(lent, site, from_raw_parts(sheet, sheet_length), true).map(|(oracle, words)| {
-        let list = oracle.jacobian(&words);
-        let room = (rows_length / 4).min(cols_length / 4).min(values_length / 8);
-        if room < list.len() {
-            return 7;
-        }
-        for (place, triplet) in list.iter().enumerate() {
-            let (row, col) = ((triplet.0 as u32).to_le_bytes(), (triplet.1 as u32).to_le_bytes());
-            std::ptr::copy_nonoverlapping(row.as_ptr(), rows.add(4 * place), 4);
-            std::ptr::copy_nonoverlapping(col.as_ptr(), cols.add(4 * place), 4);
-        }
-        let list: Vec<f64> = list.iter().map(|triplet| triplet.2).collect();
-        put(&list, values, values_length)
+        put_list(&oracle.jacobian(&words), rows, rows_length, cols, cols_length, values, values_length)
     }));
+
+/// Writes triplets to the fronts of three lent outputs.
+unsafe fn put_list(
+    list: &[(usize, usize, f64)],
+    rows: *mut u8,
+    rows_length: usize,
+    cols: *mut u8,
+    cols_length: usize,
+    values: *mut u8,
+    values_length: usize,
+) -> u64 {
+    let room = (rows_length / 4).min(cols_length / 4).min(values_length / 8);
+    if room < list.len() {
+        return 7;
+    }
+    for (place, triplet) in list.iter().enumerate() {
+        let (row, col) = ((triplet.0 as u32).to_le_bytes(), (triplet.1 as u32).to_le_bytes());
+        std::ptr::copy_nonoverlapping(row.as_ptr(), rows.add(4 * place), 4);
+        std::ptr::copy_nonoverlapping(col.as_ptr(), cols.add(4 * place), 4);
+    }
+    let list: Vec<f64> = list.iter().map(|triplet| triplet.2).collect();
+    put(&list, values, values_length)
+}

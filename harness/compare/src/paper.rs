@@ -396,6 +396,10 @@ pub fn double(bytes: &[u8], place: usize) -> f64 {
     f64::from_bits(u64::from_le_bytes(eight))
 }
 
+pub fn set_bits(bytes: &mut [u8], place: usize, bits: u64) {
+    bytes[8 * place..8 * place + 8].copy_from_slice(&bits.to_le_bytes());
+}
+
 pub fn words(bytes: &[u8]) -> Vec<u32> {
     (0..bytes.len() / 4).map(|place| word(bytes, place)).collect()
 }

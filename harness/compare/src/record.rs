@@ -8,7 +8,7 @@
 use std::fs::File;
 use std::io::{BufWriter, Result, Write};
 
-use crate::calls::Site;
+use crate::calls::{self, Site};
 use crate::generate;
 use crate::paper::{bytes_of_doubles, bytes_of_words, Lent, HEAD};
 use crate::random::Rng;
@@ -17,12 +17,7 @@ use crate::solutions;
 /// The bench network, the network without anything, then drawn ones.
 fn case(seed: u64, serial: u64) -> (Site, Vec<f64>) {
     if serial == 0 {
-        let (net, solution) = oracle::bench_network();
-        let lent = Lent {
-            wiring: bytes_of_words(&net.wiring),
-            readings: bytes_of_doubles(&net.readings),
-            ..Lent::default()
-        };
+        let (lent, solution) = calls::bench();
         return (Site::new(lent), solution);
     }
     if serial == 1 {

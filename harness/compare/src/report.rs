@@ -17,9 +17,10 @@ macro_rules! marks {
         #[derive(Clone, Copy, Debug, PartialEq, Eq)]
         pub enum $name_of_all { $($($mark,)*)* }
 
-        const $all: &[(&str, &str)] = &[$($(($title, $name),)*)*];
+        pub const $all: &[(&str, &str)] = &[$($(($title, $name),)*)*];
     };
 }
+pub(crate) use marks;
 
 marks! {
     /// Things that a run must have met.
@@ -285,7 +286,8 @@ pub struct Coverage {
     over: Vec<[[u64; 8]; 8]>,
 }
 
-struct Row {
+/// A row of the coverage table.
+pub struct Row {
     title: String,
     name: String,
     hits: u64,
@@ -374,11 +376,11 @@ impl Coverage {
         for count in Count::ALL {
             for (level, name) in LEVELS.iter().enumerate() {
                 let hits = self.levels[count as usize][level];
-                rows.push(row("counts", format!("{} {}", count.name(), name), hits));
+                rows.push(row("counts", format!("{} {}", count.name(), name), hits, FLOOR));
             }
         }
         for ((title, name), &hits) in MARKS.iter().zip(&self.marks) {
-            rows.push(row(title, name.to_string(), hits));
+            rows.push(row(title, name.to_string(), hits, FLOOR));
         }
         self.answer_rows(&mut rows);
         self.sheet_rows(&mut rows);
@@ -391,8 +393,7 @@ impl Coverage {
             for (place, op) in solved().filter(|(_, op)| states::matters(op.name, title)) {
                 let hits = self.sheets[place][mark];
                 let title = format!("calls on a solution sheet: {}", title);
-                let row = row(&title, format!("{}: {}", op.name, name), hits);
-                rows.push(Row { floor: SHEET_FLOOR, ..row });
+                rows.push(row(&title, format!("{}: {}", op.name, name), hits, SHEET_FLOOR));
             }
         }
         for (place, op) in solved() {
@@ -402,8 +403,8 @@ impl Coverage {
                     continue;
                 }
                 let name = format!("{}: word of {} broken", op.name, block.name());
-                let row = row("solution sheets refused", name, self.blocks[place][block as usize]);
-                rows.push(Row { floor: SHEET_FLOOR, ..row });
+                let hits = self.blocks[place][block as usize];
+                rows.push(row("solution sheets refused", name, hits, SHEET_FLOOR));
             }
         }
     }
@@ -413,34 +414,21 @@ impl Coverage {
             for &number in op.numbers {
                 let hits = self.answers[place][number as usize];
                 let name = format!("{}: {}", op.name, number);
-                rows.push(row("answers", name, hits));
+                rows.push(row("answers", name, hits, FLOOR));
             }
         }
         for (place, op) in OPS.iter().enumerate() {
             for (answered, held) in op.rivals() {
                 let hits = self.over[place][answered as usize][held as usize];
                 let name = format!("{}: {} before {}", op.name, answered, held);
-                rows.push(row("lowest of several", name, hits));
+                rows.push(row("lowest of several", name, hits, FLOOR));
             }
         }
     }
 
     /// Prints the table and answers how many rows stay below the floor.
     pub fn print(&self, damages: &[Damage]) -> usize {
-        let mut title = String::new();
-        let mut low = 0;
-        for row in self.rows(damages) {
-            if row.title != title {
-                println!("{}", row.title);
-                title = row.title.clone();
-            }
-            let below = row.hits < row.floor || row.paired.map_or(false, |hits| hits < row.floor);
-            low += usize::from(below);
-            let warning = if below { "  BELOW THE FLOOR" } else { "" };
-            let paired = row.paired.map_or(String::new(), |hits| hits.to_string());
-            let line = format!("  {:<64} {:>8} {:>6}  {}", row.name, row.hits, paired, row.note);
-            println!("{}{}", line.trim_end(), warning);
-        }
+        let low = print_rows(&self.rows(damages));
         let least = self.pairs.iter().min().copied().unwrap_or(0);
         let met = self.pairs.iter().filter(|&&hits| hits > 0).count();
         println!("pairs of damages");
@@ -449,8 +437,27 @@ impl Coverage {
     }
 }
 
-fn row(title: &str, name: String, hits: u64) -> Row {
-    Row { title: title.to_string(), name, hits, paired: None, note: String::new(), floor: FLOOR }
+/// Prints rows under their titles and answers how many stay below their floors.
+pub fn print_rows(rows: &[Row]) -> usize {
+    let mut title = "";
+    let mut low = 0;
+    for row in rows {
+        if row.title != title {
+            println!("{}", row.title);
+            title = &row.title;
+        }
+        let below = row.hits < row.floor || row.paired.map_or(false, |hits| hits < row.floor);
+        low += usize::from(below);
+        let warning = if below { "  BELOW THE FLOOR" } else { "" };
+        let paired = row.paired.map_or(String::new(), |hits| hits.to_string());
+        let line = format!("  {:<64} {:>8} {:>6}  {}", row.name, row.hits, paired, row.note);
+        println!("{}{}", line.trim_end(), warning);
+    }
+    low
+}
+
+pub fn row(title: &str, name: String, hits: u64, floor: u64) -> Row {
+    Row { title: title.to_string(), name, hits, paired: None, note: String::new(), floor }
 }
 
 /// A call that did not do what the paper and the original Rust say.

@@ -13,19 +13,19 @@ use crate::paper::{
 use crate::random::Rng;
 
 /// Just below the tolerance, the tolerance, just above it.
-fn around(rng: &mut Rng) -> f64 {
+pub fn around(rng: &mut Rng) -> f64 {
     let at = tolerance();
     rng.pick(&[below(at), at, above(at)])
 }
 
 /// From 2 to 2.8 tolerances: less any of `around`, the difference is exact.
-fn few(rng: &mut Rng) -> f64 {
+pub fn few(rng: &mut Rng) -> f64 {
     let steps = rng.next() % 2_000_000_000_000_000;
     f64::from_bits((2.0 * tolerance()).to_bits() + steps)
 }
 
 /// The doubles next to one that isn't zero, and itself before them.
-fn beside(x: f64) -> [f64; 3] {
+pub fn beside(x: f64) -> [f64; 3] {
     let step = |by: i64| f64::from_bits((x.to_bits() as i64 + by) as u64);
     if x == 0.0 {
         [x; 3]

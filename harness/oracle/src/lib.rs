@@ -236,6 +236,11 @@ impl Oracle {
         }
     }
 
+    /// One reading set in place, as a site change sets it.
+    pub fn set_fmax(&mut self, branch: usize, fmax: f64) {
+        self.dc.fmax[branch] = fmax;
+    }
+
     // The model.
 
     pub fn shed_cap(&self, bus: usize) -> f64 {

@@ -14,7 +14,7 @@ use Rattle.decoding.specs.Exports.{laidOut}
 use Rattle.decoding.proofs.Decoded.{network, wholes}
 use Rattle.decoding.proofs.Answered.{unsized-beside, unsized-own, wholly-own, told-own, cut-count}
 use Rattle.decoding.proofs.Listed.{list-cells}
-use Rattle.capi_sens.proofs.Solved.{long-few}
+use Rattle.solution_check.proofs.Own.{long-few}
 use Rattle.capi_sens.proofs.Laid.{matrix-one}
 use Rattle.capi_sens.proofs.matrix.capi_kkt_triplets.Statement.{statement}
 use Rattle.capi_sens.proofs.matrix.capi_kkt_triplets.Tie as tie

@@ -11,7 +11,8 @@ use Rattle.sens_snap.specs.Calls.{snapLinearCall}
 use Rattle.decoding.specs.Exports.{filledOut}
 use Rattle.decoding.proofs.Decoded.{network, wholes}
 use Rattle.decoding.proofs.Answered.{unsized-beside, unsized-own, wholly-own, told-own, cut-count, cut-cells}
-use Rattle.capi_sens.proofs.Solved.{long-few, solved-one}
+use Rattle.solution_check.proofs.Own.{long-few}
+use Rattle.capi_sens.proofs.Solved.{solved-one}
 use Rattle.capi_sens.proofs.sheets.capi_snap_linear.Statement.{statement}
 use Rattle.capi_sens.proofs.sheets.capi_snap_linear.Tie as tie
 

@@ -1,0 +1,3 @@
+-- The laws that proofs cite. Assumes nothing.
+pub mod Telling
+pub mod Carried

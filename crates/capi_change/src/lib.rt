@@ -1,0 +1,3 @@
+// The change calls as extern "C" functions: on typed slices with no decoding, and on byte slices.
+pub mod bytes;
+pub mod typed;

@@ -1,0 +1,2 @@
+-- The definitions that the contracts cite: where the program's columns and rows stand. Assumes nothing.
+pub mod Layout

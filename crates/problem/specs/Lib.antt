@@ -1,0 +1,2 @@
+-- The definitions that the contracts cite: the calls of problem/dc.rs. Assumes nothing.
+pub mod Calls

@@ -134,7 +134,7 @@ unfolding every
 fourteen = refl
 
 -- the block of a rank has that rank
-row-rank-of : (k : ℕ) → k < 14 → rowRank (getD rows k Balance) ≡ k
+pub row-rank-of : (k : ℕ) → k < 14 → rowRank (getD rows k Balance) ≡ k
 row-rank-of k h = eqb→eq (rowRank (getD rows k Balance)) k (subst T (sym (every-at (λ k. eqb (rowRank (getD rows k Balance)) k) 14 fourteen k h)) tt)
 
 -- row i of the program: of this block, at this place; `rows-apart` says that of no other

@@ -92,11 +92,6 @@ rank-met on n k h = go (width-met (λ i. cond (on i) 1 0) n k h)
         let q = owned (on (p .index)) (p .at) (p .inside) in
         record { index = p .index; below = p .below; active = q .0; is = omega (arith, p .is, q .1) }
 
--- numbering begins at 0
-pub rank-first : (on : ℕ → Bool) → activeRank on 0 ≡ 0
-unfolding activeRank
-rank-first on = sym (before-none (λ i. cond (on i) 1 0))
-
 -- an active one takes the next number
 pub rank-on : (on : ℕ → Bool) (i : ℕ) → on i ≡ true → activeRank on (i + 1) ≡ activeRank on i + 1
 unfolding activeRank

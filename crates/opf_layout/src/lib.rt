@@ -11,7 +11,6 @@ ghost use mathlib.Core.Path.{_≡_};
 ghost use mathlib.Core.Bool.{cond};
 ghost use Prim.Native.Nat.{_*_, _≤_, _<_};
 ghost use Rattle.network.specs.Layout.{WiringLaid, ReadingsLaid, partSize};
-ghost use Rattle.network.specs.Numbers.{Wired};
 ghost use Rattle.opf_layout.specs.Layout.{activeRank, flagged, sheds, equalities, inequalities, equalityRank, inequalityRank, activeOf, Bounded, Placed, Narrow, columnIn, rowIn};
 
 // The columns of the program, in order.
@@ -82,7 +81,7 @@ pub struct OpfLayout {
 }
 
 // 1 for an active one, 0 for another.
-fn one_if(on: bool) -> usize
+pub fn one_if(on: bool) -> usize
     ensures { λ r. ⌜ (r ≡ cond on 1 0) × (r ≤ 1) ⌝ }
 {
     if on { 1 } else { 0 }
@@ -181,7 +180,7 @@ pub fn count_inequalities(wiring: &[u32], readings: &[f64], c: Counts) -> usize
 
 // All that is active.
 pub fn active_of(wiring: &[u32], readings: &[f64], c: Counts) -> Active
-    requires { ⌜ Wired c (now wiring) ⌝ }
+    requires { ⌜ WiringLaid c (now wiring) ⌝ }
     requires { ⌜ ReadingsLaid c (now readings) ⌝ }
     ensures { λ a. ⌜ (a ≡ activeOf c (now (wiring .entry)) (now (readings .entry))) × Bounded c a ⌝ }
 {

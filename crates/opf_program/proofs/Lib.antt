@@ -1,5 +1,3 @@
--- The laws of the program. Assumes nothing.
+-- The laws of entries by value, and of a branch's. Assumes nothing.
 pub mod Triplets
 pub mod Branches
-pub mod Turns
-pub mod Whole

@@ -1,5 +1,5 @@
 -- The laws of `tripletsBy`: it goes over appended lists, loops and choices; entries put by value are those that the specification names.
--- Main results: `written-append`, `written-each`, `written-same`, `puts-then`, `puts-more`, `one-put`, `two-put`, `four-put`. Assumes nothing.
+-- Main results: `written-append`, `written-each`, `written-same`, `puts-then`, `puts-more`, `meant-put`, `one-put`, `two-put`, `four-put`. Assumes nothing.
 use mathlib.Core.Path.{_≡_, refl, sym, _∙_}
 use mathlib.Core.Bool.{Bool, true, false}
 use mathlib.Core.List.{List, [], _∷_, _++_, append-nil, append-assoc}
@@ -15,7 +15,8 @@ use Rattle.opf_layout.specs.declared.OpfRow.{OpfRow}
 use Rattle.opf_layout.specs.declared.OpfLayout.{OpfLayout}
 use Rattle.opf_layout.specs.Layout.{columnIn, rowIn}
 use Rattle.opf_program.specs.declared.Cell.{Cell}
-use Rattle.opf_program.specs.Assembly.{Coefficient, itemBy, tripletsBy}
+use Rattle.program_builder.specs.Builder.{kept}
+use Rattle.opf_assembly.specs.Assembly.{Coefficient, itemBy, tripletsBy}
 use Rattle.opf_program.specs.Walks.{cellOf, cellItem}
 
 module _ (rowAt : OpfRow → ℕ) (columnAt : OpfColumn → ℕ) (R : Field → ℕ → Float) (S : Entry → ℕ → Float) where
@@ -58,6 +59,16 @@ written-same R S p q [] = refl
 written-same R S p q (k ∷ ks) = rw (p (k .row .0), q (k .col .0), written-same R S p q ks)
 
 -- ---- entries by value
+
+-- one that is meant is `a`'s, by where its blocks start; one that is not is nothing
+module _ (x : OpfLayout) {l : ℕ} {on : Bool} {S₀ : Sheets} where
+  pub meant-put : {S₁ : Sheets} (s : Cell) {i j : ℕ} → on ≡ true → i ≡ rowIn x (s .row) → j ≡ columnIn x (s .col) → Puts l (kept (i + s .i) (j + s .j) (s .value)) S₀ S₁
+      → Puts l (emit (cellItem x on s)) S₀ S₁
+  meant-put s e f g p = rw e (rw (f, g) at p)
+
+  pub unmeant-put : (s : Cell) → on ≡ false → Puts l (emit (cellItem x on s)) S₀ S₀
+  unfolding emit when
+  unmeant-put s e = rw e none
 
 module _ (x : OpfLayout) (R : Field → ℕ → Float) (S : Entry → ℕ → Float) {l : ℕ} {S₀ S₁ : Sheets} where
   pub one-put : (on : Bool) (k : Coefficient) {s : Cell} → s ≡ cellOf R S k → Puts l (emit (cellItem x on s)) S₀ S₁ → Puts l (tripletsBy (rowIn x) (columnIn x) R S (when on (k ∷ []))) S₀ S₁

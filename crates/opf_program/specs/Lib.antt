@@ -1,3 +1,2 @@
--- The definitions that the contracts cite: the program that `assemble_opf` writes, and what the loops that put it keep. Assumes nothing.
-pub mod Assembly
+-- What puts an entry of the program, and a branch's. Assumes nothing.
 pub mod Walks

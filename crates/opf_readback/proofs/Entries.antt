@@ -1,5 +1,5 @@
 -- Each block lies within its raw vector, and what a walk over it leaves is the definition's entry.
--- Main results: `column-room`, `row-room`; `of-va` to `of-objective`; `entry-long`, `sheet-is`. Assumes nothing.
+-- Main results: `column-room`, `row-room`; `of-va` to `of-objective`; `entry-long`, `sheet-is`, `read-long`. Assumes nothing.
 use mathlib.Core.Path.{_≡_, refl, sym, ap, _∙_}
 use mathlib.Core.List.{List}
 use Prim.Native.Nat.{ℕ, _+_, _≤_, _<_}
@@ -18,7 +18,8 @@ use Rattle.model.specs.Rows.{rowLimits}
 use Rattle.model.specs.Quantities.{evaluate}
 use Rattle.solution.specs.declared.Entry.{Entry}
 use Rattle.solution.specs.declared.Entry.the-variants.{Va, Pg, Flow, Psh, NuBal, LamUb, LamLb, RhoUb, RhoLb, MuUb, MuLb, GammaUb, GammaLb, Epigraph, SegmentDual, LinearDual, LinearValue, Objective}
-use Rattle.solution.specs.Sheet.{entries, size, pieces}
+use Rattle.solution.specs.Sheet.{entries, size, sizes, pieces, sheetLength}
+use Rattle.sens_snap.proofs.Words.{each-long, before-start, entry-size}
 use Rattle.snapping.proofs.Rows.{part, part-length, part-at}
 use Rattle.opf_layout.specs.declared.OpfColumn.{OpfColumn}
 use Rattle.opf_layout.specs.declared.OpfColumn.the-variants as columns
@@ -195,3 +196,12 @@ module _ (c : Counts) (w : List ℕ) (r : List Float) (ti : List ℕ) (tc x z : 
 pub pieces-few : (c : Counts) (w : List ℕ) (r : List Float) (p : ℕ) → Bounded c (activeOf c w r) → p ≡ pieces c w → p ≤ c .generators
 unfolding activeOf
 pieces-few c w r p h q = omega (arith, h .few-pieces)
+
+module _ (c : Counts) (w : List ℕ) (r : List Float) (ti : List ℕ) (tc x z : List Float) (raw : Float) where
+  -- as many words as the solution sheet has
+  pub read-long : length (readSheet c w r ti tc x z raw) ≡ sheetLength c (pieces c w)
+  unfolding readSheet
+  read-long =
+      each-long (λ k. made (readAt c w r ti tc x z raw (getD entries k Va)) (size c (pieces c w) (getD entries k Va))) (λ k. getD (sizes c (pieces c w)) k 0) 18
+      (λ k l. made-length (readAt c w r ti tc x z raw (getD entries k Va)) (size c (pieces c w) (getD entries k Va)) ∙ sym (entry-size c (pieces c w) k l))
+      ∙ before-start (sizes c (pieces c w)) 18

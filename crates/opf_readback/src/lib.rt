@@ -11,6 +11,7 @@ use network::layout::word;
 use opf_layout::OpfLayout;
 use opf_layout::equalities_of;
 use opf_layout::inequalities_of;
+use opf_layout::one_if;
 use opf_layout::sheds_at;
 use solution::Entry;
 use solution::entry_size;
@@ -53,13 +54,6 @@ fn put_turned(from: &[f64], start: usize, count: usize, out: &mut [f64], at: usi
     for i in 0..count {
         out[at + i] = -from[start + i];
     }
-}
-
-// 1 for an active one, 0 for another.
-fn one_if(on: bool) -> usize
-    ensures { λ r. ⌜ (r ≡ cond on 1 0) × (r ≤ 1) ⌝ }
-{
-    if on { 1 } else { 0 }
 }
 
 // The word at a place for an active one, 0 for another.

@@ -3,10 +3,15 @@ use network::Counts;
 use network::Field;
 use network::layout::counts;
 use network::layout::reading;
+use opf_layout::OpfLayout;
+use opf_layout::active_of;
+use opf_readback::read_into;
+use raw_check::raw_number;
 use sequence::Answer;
 use solution::Entry;
 use solution::piece_count;
 use solution::solved_at;
+use solution_check::sheet_length;
 use solution_check::solution_number;
 ghost use mathlib.Core.Path.{_≡_};
 ghost use Prim.Native.Nat.{_≤_};
@@ -19,7 +24,7 @@ ghost use Rattle.network.specs.Layout.{ReadingsLaid, reading};
 ghost use Rattle.network.specs.Numbers.{lent};
 ghost use Rattle.solution.specs.declared.Entry.the-variants.{NuBal};
 ghost use Rattle.solution.specs.Sheet.{solved, SheetLaid};
-ghost use Rattle.problem.specs.Calls.{nodalCall};
+ghost use Rattle.problem.specs.Calls.{nodalCall, readCall};
 
 // nu_bal / base_mva of every bus.
 fn nodal_into(readings: &[f64], solution: &[f64], c: Counts, p: usize, out: &mut [f64])
@@ -69,4 +74,55 @@ pub fn nodal_marginal_values(
         number: 0,
         count: c.buses,
     }
+}
+
+// The solution sheet that a solver's primal and dual vectors and its objective give.
+pub fn read_dc_solution(
+    wiring: &[u32],
+    readings: &[f64],
+    term_index: &[u32],
+    term_coefficient: &[f64],
+    x: &[f64],
+    z: &[f64],
+    objective: f64,
+    out: &mut [f64],
+) -> Answer
+    ensures { λ a. ⌜ filled (a .number) (a .count) (now (out .exit)) ≡ readCall (lent (wiring .entry) (readings .entry) («term_index» .entry) («term_coefficient» .entry)) (now (x .entry)) (now (z .entry)) objective (now (out .entry)) ⌝ }
+{
+    let number = raw_number(
+        wiring,
+        readings,
+        term_index,
+        term_coefficient,
+        x,
+        z,
+        objective,
+    );
+    if number != 0 {
+        return Answer { number, count: 0 };
+    }
+    let c = counts(wiring);
+    let p = piece_count(wiring, c);
+    let count = sheet_length(c, p);
+    if out.len() < count {
+        return Answer {
+            number: 7,
+            count: 0,
+        };
+    }
+    let lay = OpfLayout::dc(c, active_of(wiring, readings, c));
+    read_into(
+        wiring,
+        readings,
+        term_index,
+        term_coefficient,
+        x,
+        z,
+        objective,
+        c,
+        p,
+        lay,
+        out,
+    );
+    Answer { number: 0, count }
 }

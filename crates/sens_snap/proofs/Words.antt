@@ -25,7 +25,7 @@ use Rattle.solution.specs.declared.Entry.the-variants.{Va, Pg, Flow, Psh, NuBal
 use Rattle.solution.specs.Sheet.{entries, rank, size, sizes, sheetLength}
 use Rattle.snapping.specs.Snap.{segmentWords, plainWords, entryWords, snapSheet, dualWords, dualSheet}
 
-each-long : {A : Type 0} (f : ℕ → List A) (g : ℕ → ℕ) (n : ℕ) → ((i : ℕ) → i < n → length (f i) ≡ g i) → length (each n f) ≡ before g n
+pub each-long : {A : Type 0} (f : ℕ → List A) (g : ℕ → ℕ) (n : ℕ) → ((i : ℕ) → i < n → length (f i) ≡ g i) → length (each n f) ≡ before g n
 unfolding each before
 each-long f g zero h = refl
 each-long f g (suc n) h =
@@ -49,12 +49,12 @@ start-suc [] (suc k) = refl
 start-suc (x ∷ xs) zero = omega arith
 start-suc (x ∷ xs) (suc k) = omega (arith, start-suc xs k)
 
-before-start : (xs : List ℕ) (k : ℕ) → before (λ i. getD xs i 0) k ≡ start xs k
+pub before-start : (xs : List ℕ) (k : ℕ) → before (λ i. getD xs i 0) k ≡ start xs k
 unfolding before
 before-start xs zero = refl
 before-start xs (suc k) = rw (before-start xs k) (sym (start-suc xs k))
 
-entry-size : (c : Counts) (p k : ℕ) → k < 18 → getD (sizes c p) k 0 ≡ size c p (getD entries k Va)
+pub entry-size : (c : Counts) (p k : ℕ) → k < 18 → getD (sizes c p) k 0 ≡ size c p (getD entries k Va)
 entry-size c p k h = map-at (size c p) entries k h
 
 start-next : (c : Counts) (p k : ℕ) → k < 18 → start (sizes c p) (k + 1) ≡ start (sizes c p) k + size c p (getD entries k Va)

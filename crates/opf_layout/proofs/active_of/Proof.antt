@@ -17,7 +17,7 @@ returns c =
     let start = c .before .before .before .before .before .before .before .before .before in (
       rw (inequal .0, equal .0, piece .0, phase .0, shed .0, gen .0, line .0),
       record {
-        few = start .pre .0 .laid .few;
+        few = start .pre .0 .few;
         few-lines = line .1;
         few-generators = gen .1;
         few-sheds = shed .1;

@@ -1,0 +1,2 @@
+-- What the loops that put the program keep. Assumes nothing.
+pub mod Groups

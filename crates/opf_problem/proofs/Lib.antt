@@ -1,0 +1,2 @@
+-- The laws that the proofs of `assemble_opf` cite. Assumes nothing.
+pub mod Returns

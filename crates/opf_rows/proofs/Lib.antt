@@ -1,0 +1,2 @@
+-- The laws of segments and of linear rows. Assumes nothing.
+pub mod Rows

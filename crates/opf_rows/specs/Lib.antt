@@ -1,0 +1,2 @@
+-- What puts a linear row's terms. Assumes nothing.
+pub mod Terms

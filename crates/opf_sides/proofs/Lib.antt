@@ -1,0 +1,4 @@
+-- The laws that the proofs of q, b and the cones cite. Assumes nothing.
+pub mod Storing
+pub mod Lengths
+pub mod Cones

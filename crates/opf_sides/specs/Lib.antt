@@ -1,0 +1,2 @@
+-- The definitions that the contracts cite: words stored after each other. Assumes nothing.
+pub mod Walks

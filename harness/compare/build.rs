@@ -3,8 +3,8 @@
 use std::env;
 use std::path::PathBuf;
 
-/// `libNAME.a` each; exports of the model, of the matrix, of site changes.
-const LIBRARIES: [&str; 3] = ["capi", "capi_sens", "capi_change"];
+/// `libNAME.a` each; exports of the model, of the matrix, of site changes, of the program.
+const LIBRARIES: [&str; 4] = ["capi", "capi_sens", "capi_change", "capi_problem"];
 
 fn main() {
     println!("cargo:rerun-if-changed=build.rs");

@@ -1,2 +1,4 @@
 -- The laws that the proofs of `assemble_opf` cite. Assumes nothing.
 pub mod Returns
+pub mod Bound
+pub mod Bench

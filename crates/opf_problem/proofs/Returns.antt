@@ -100,18 +100,16 @@ module _ {c : Counts} {w : List ℕ} {r : List Float} {ti : List ℕ} {tc : List
       let g : room .cones < length (cones c (activeOf c w r)) = omega (arith, same-cones) in
       sym (or-right p? (a? || (q? || (b? || cones?))) (or-right a? (q? || (b? || cones?)) (or-right q? (b? || cones?) (or-right b? cones? (lt-ltb (room .cones) (length (cones c (activeOf c w r))) g)))))
 
-  pub p-short : {k : ℕ} → k ≡ length (pTriplets c w r) → room .p < k → true ≡ anyShort c w r ti tc room
-  p-short e l = sym (or-left p? (a? || (q? || (b? || cones?))) (lt-ltb (room .p) (length (pTriplets c w r)) (rw e at l)))
+  pub p-short : {x : Bool} → x ≡ p? → x ≡ true → true ≡ anyShort c w r ti tc room
+  p-short e l = sym (or-left p? (a? || (q? || (b? || cones?))) (sym e ∙ l))
 
   -- A's room is left to decide
-  pub a-decides : {k j i : ℕ} → k ≡ length (conesIn lay) → j ≡ length (pTriplets c w r) → i ≡ length (aTriplets c w r ti tc)
-      → lay .nvar ≤ room .q → lay .ncon ≤ room .b → k ≤ room .cones → j ≤ room .p → ltb (room .a) i ≡ anyShort c w r ti tc room
+  pub a-decides : {k : ℕ} {x y : Bool} → k ≡ length (conesIn lay) → x ≡ p? → y ≡ a? → lay .nvar ≤ room .q → lay .ncon ≤ room .b → k ≤ room .cones → x ≡ false → y ≡ anyShort c w r ti tc room
   a-decides e f g hq hb hs hp =
       let q : length (qSheet c w r) ≤ room .q = omega (arith, q-long c w r, h .placed .nvar-is) in
       let b : length (bSheet c w r) ≤ room .b = omega (arith, b-long c w r, h .placed .ncon-is) in
       let s : length (cones c (activeOf c w r)) ≤ room .cones = omega (arith, same-cones) in
-      let p : length (pTriplets c w r) ≤ room .p = rw f at hp in
-      rw (le-ltb (room .p) (length (pTriplets c w r)) p, le-ltb (room .q) (length (qSheet c w r)) q, le-ltb (room .b) (length (bSheet c w r)) b, le-ltb (room .cones) (length (cones c (activeOf c w r))) s, g) (last (ltb (room .a) (length (aTriplets c w r ti tc))))
+      rw (sym f ∙ hp, le-ltb (room .q) (length (qSheet c w r)) q, le-ltb (room .b) (length (bSheet c w r)) b, le-ltb (room .cones) (length (cones c (activeOf c w r))) s, g) (last a?)
     where
       last : (x : Bool) → x ≡ x || false
       last true = refl

@@ -1,6 +1,6 @@
 -- What the inner functions of `assemble_opf` are lent, and whether a result has no room.
--- Main definitions: `Laid`, `anyShort`. Assumes nothing.
-use Prim.Native.Nat.{ℕ}
+-- Main definitions: `Laid`, `anyShort`, `mostA`. Assumes nothing.
+use Prim.Native.Nat.{ℕ, _+_, _*_}
 use mathlib.Core.Bool.{Bool, _||_}
 use mathlib.Core.List.{List}
 use lib.ListN.{length}
@@ -27,3 +27,7 @@ abbrev pub anyShort : Counts → List ℕ → List Float → List ℕ → List F
 anyShort c w r ti tc room =
     ltb (room .p) (length (pTriplets c w r))
     || (ltb (room .a) (length (aTriplets c w r ti tc)) || (ltb (room .q) (length (qSheet c w r)) || (ltb (room .b) (length (bSheet c w r)) || ltb (room .cones) (length (cones c (activeOf c w r))))))
+
+-- the most triplets that A can have
+abbrev pub mostA : Counts → ℕ
+mostA c = 3 * c .buses + 3 * c .generators + 13 * c .branches + c .references + 2 * c .segments + 2 * c .terms

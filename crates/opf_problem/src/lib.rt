@@ -14,13 +14,15 @@ use sequence::room;
 ghost use mathlib.Core.Path.{_≡_};
 ghost use Prim.Native.Nat.{_≤_};
 ghost use lib.ListN.{length};
+ghost use lib.Dec.{ltb};
 ghost use Rattle.sequence.specs.Lists.{front};
 ghost use Rattle.sequence.specs.Sheets.{laid, lays, room};
+ghost use Rattle.network.specs.Layout.{Few};
 ghost use Rattle.network.specs.Numbers.{lent};
 ghost use Rattle.opf_layout.specs.Layout.{activeOf, cones};
 ghost use Rattle.opf_assembly.specs.Assembly.{pTriplets, aTriplets, qSheet, bSheet};
 ghost use Rattle.opf_problem.specs.Calls.{program, assembled, assembles, partsAt, assembleCall};
-ghost use Rattle.opf_problem.specs.Walks.{Laid, anyShort};
+ghost use Rattle.opf_problem.specs.Walks.{Laid, anyShort, mostA};
 
 // 0, or the number of the refusal, and how many triplets of A and of P were written.
 pub struct Assembly {
@@ -85,6 +87,52 @@ fn count_p(
     put_p(readings, c, lay, &mut rows, &mut cols, &mut values, 0)
 }
 
+// The most triplets that A can have.
+fn most_a(c: Counts) -> usize
+    requires { ⌜ Few c ⌝ }
+    ensures { λ k. ⌜ k ≡ mostA c ⌝ }
+{
+    3 * c.buses + 3 * c.generators + 13 * c.branches + c.references + 2 * c.segments + 2 * c.terms
+}
+
+// Whether A's triplets have no room; they are counted only where the most that there can be have none.
+fn a_is_short(
+    wiring: &[u32],
+    readings: &[f64],
+    term_index: &[u32],
+    term_coefficient: &[f64],
+    c: Counts,
+    lay: OpfLayout,
+    room: usize,
+) -> bool
+    requires { ⌜ Laid c (now wiring) (now readings) (now «term_index») (now «term_coefficient») lay ⌝ }
+    ensures { λ r. ⌜ r ≡ ltb room (length (aTriplets c (now (wiring .entry)) (now (readings .entry)) (now («term_index» .entry)) (now («term_coefficient» .entry)))) ⌝ }
+{
+    if most_a(c) <= room {
+        return false;
+    }
+    room < count_a(wiring, readings, term_index, term_coefficient, c, lay)
+}
+
+// Whether P's have none.
+fn p_is_short(
+    wiring: &[u32],
+    readings: &[f64],
+    term_index: &[u32],
+    term_coefficient: &[f64],
+    c: Counts,
+    lay: OpfLayout,
+    room: usize,
+) -> bool
+    requires { ⌜ Laid c (now wiring) (now readings) (now «term_index») (now «term_coefficient») lay ⌝ }
+    ensures { λ r. ⌜ r ≡ ltb room (length (pTriplets c (now (wiring .entry)) (now (readings .entry)))) ⌝ }
+{
+    if c.generators <= room {
+        return false;
+    }
+    room < count_p(wiring, readings, term_index, term_coefficient, c, lay)
+}
+
 // Whether a sheet is shorter than its result.
 fn is_short(
     wiring: &[u32],
@@ -107,10 +155,26 @@ fn is_short(
     if rooms.cones < cone_count(lay) {
         return true;
     }
-    if rooms.p < count_p(wiring, readings, term_index, term_coefficient, c, lay) {
+    if p_is_short(
+        wiring,
+        readings,
+        term_index,
+        term_coefficient,
+        c,
+        lay,
+        rooms.p,
+    ) {
         return true;
     }
-    rooms.a < count_a(wiring, readings, term_index, term_coefficient, c, lay)
+    a_is_short(
+        wiring,
+        readings,
+        term_index,
+        term_coefficient,
+        c,
+        lay,
+        rooms.a,
+    )
 }
 
 // P's triplets, which fit.

@@ -5,8 +5,6 @@ use sequence::put;
 ghost use mathlib.Core.Path.{_≡_};
 ghost use Prim.Native.Nat.{_+_, _<_, _≤_};
 ghost use lib.ListN.{length};
-ghost use Rattle.float64.specs.Values.{nought};
-ghost use Rattle.sequence.specs.Lists.{made, front};
 ghost use Rattle.sequence.specs.Sheets.{held, Puts, Room};
 ghost use Rattle.program_builder.specs.Builder.{kept, added, replaced};
 
@@ -73,14 +71,4 @@ pub fn rhs(b: &mut [f64], r: usize, v: f64)
     ensures { λ _. ⌜ now (b .exit) ≡ replaced (now (b .entry)) r v ⌝ }
 {
     b[r] = v;
-}
-
-// The first words are 0.
-pub fn clear(sheet: &mut [f64], count: usize)
-    requires { ⌜ count ≤ length (now sheet) ⌝ }
-    ensures { λ _. ⌜ now (sheet .exit) ≡ front (made (λ i. nought) count) (now (sheet .entry)) ⌝ }
-{
-    for i in 0..count {
-        sheet[i] = 0.0;
-    }
 }

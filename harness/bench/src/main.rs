@@ -4,6 +4,10 @@
 //! original is handed its own structures, built beforehand, and tests nothing.
 
 mod change;
+#[cfg(feature = "mock")]
+#[path = "../../compare/src/mock.rs"]
+mod mock;
+mod program;
 
 use oracle::{Differentiable, Network, Oracle};
 use std::hint::black_box;
@@ -229,5 +233,8 @@ fn main() {
     }
     for (n, m, k) in [(20, 30, 8), (256, 512, 256)] {
         change::change(n, m, k);
+    }
+    for (n, m, k) in [(20, 30, 8), (256, 512, 256)] {
+        program::program(n, m, k);
     }
 }

@@ -324,13 +324,15 @@ pub fn kkt_triplets(net: Network, solution: In, rows: Out, cols: Out, values: Ou
     broken::reference(net, rows, cols, broken::fit(values, answer))
 }
 
+pub mod program;
+
 /// Deliberately wrong answers, one a feature. Without features each passes its answer on.
 mod broken {
     use super::{In, Network, Out};
     use crate::calls::Site;
     use crate::paper::{self, doubles, tolerance, Block, Count, Field, Lent, Wire};
 
-    fn site(net: Network) -> Site {
+    pub fn site(net: Network) -> Site {
         let bytes = |lent: In| unsafe { lent.bytes() }.to_vec();
         Site::new(Lent {
             wiring: bytes(net.wiring),
@@ -497,7 +499,7 @@ pub const SLOT: usize = 1 << 18;
 const GUARD_PAGE: usize = 1 << 16;
 /// Bytes before and after a lent output.
 pub const GUARD: usize = 64;
-/// The matrix of the greatest network has at most 27,552 triplets.
+/// The matrix of the greatest network has at most 27,552 triplets, its program fewer.
 const POOL: usize = 1 << 18;
 
 /// Memory for one input slice, which always ends at its end.
@@ -554,7 +556,7 @@ impl Sheet {
 }
 
 const LISTS: usize = 2;
-const SHEETS: usize = 3;
+const SHEETS: usize = 9;
 
 /// All memory that calls are lent.
 pub struct Memory {
@@ -568,11 +570,11 @@ impl Memory {
     pub fn new(seed: u64) -> Memory {
         let mut rng = Rng::new(seed, u64::MAX);
         let pool = (0..POOL / 8).flat_map(|_| rng.next().to_le_bytes()).collect();
-        let sheet = || Sheet { buffer: Vec::with_capacity(POOL), length: 0, from: 0 };
+        let sheet = |_| Sheet { buffer: Vec::with_capacity(POOL), length: 0, from: 0 };
         Memory {
             network: [Slot::new(), Slot::new(), Slot::new(), Slot::new()],
             lists: [Slot::new(), Slot::new()],
-            sheets: [sheet(), sheet(), sheet()],
+            sheets: [(); SHEETS].map(sheet),
             pool,
         }
     }
@@ -613,6 +615,11 @@ impl Memory {
 
     pub fn sheet(&mut self, sheet: usize) -> Out {
         self.sheets[sheet].lend()
+    }
+
+    pub fn program_sheets(&mut self) -> program::Sheets {
+        let mut sheets = self.sheets.iter_mut();
+        [(); SHEETS].map(|_| sheets.next().expect("as many as there are").lend())
     }
 
     /// The first network slice that no longer holds its bytes.

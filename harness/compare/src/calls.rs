@@ -3,14 +3,15 @@
 
 use oracle::Oracle;
 
-use crate::abi::{self, Memory};
+use crate::abi::{self, program, Memory};
 use crate::damage::{broken_double, Fault};
 use crate::generate::{sheet_value, value};
 use crate::marks::mark_call;
 use crate::paper::{
     self, bytes_of_doubles, bytes_of_words, double, within, word, Blocks, Count, Field, Held, Lent,
-    Shape, Wire, READING_LIMIT, SHEET_LIMIT, SLICE_NAMES,
+    Program, Shape, Wire, READING_LIMIT, SHEET_LIMIT, SLICE_NAMES,
 };
+use crate::programs;
 use crate::random::Rng;
 use crate::report::{Coverage, Mismatch};
 use crate::solutions;
@@ -21,12 +22,14 @@ pub struct Site {
     pub lent: Lent,
     pub held: Held,
     pub shape: Option<Shape>,
+    pub program: Option<Program>,
     oracle: Option<Oracle>,
 }
 
 impl Site {
     pub fn new(lent: Lent) -> Site {
         let (held, shape) = paper::held(&lent);
+        let program = shape.as_ref().map(|shape| paper::program(&lent, shape));
         let oracle = if held.lowest() == 0 {
             Some(Oracle::new(&oracle::Network {
                 wiring: paper::words(&lent.wiring),
@@ -37,7 +40,7 @@ impl Site {
         } else {
             None
         };
-        Site { lent, held, shape, oracle }
+        Site { lent, held, shape, program, oracle }
     }
 
     pub fn oracle(&self) -> &Oracle {
@@ -51,6 +54,12 @@ impl Site {
     /// A count, if number 1 does not hold.
     pub fn count(&self, count: Count) -> Option<usize> {
         self.shape.as_ref().map(|shape| shape.count(count))
+    }
+
+    /// Whether every slice has whole words.
+    pub fn whole(&self) -> bool {
+        let sizes = [4, 8, 4, 8];
+        self.lent.slices().iter().zip(sizes).all(|(slice, size)| slice.len() % size == 0)
     }
 
     pub fn wire(&self, wire: Wire, place: usize) -> u32 {
@@ -136,7 +145,7 @@ impl Lend {
     }
 }
 
-/// The length of a lent list of sheet readings.
+/// The length of a lent list of readings, of a sheet or raw.
 #[derive(Clone, Copy, Debug, PartialEq, Eq)]
 pub enum Length {
     Of(Count),
@@ -144,11 +153,28 @@ pub enum Length {
     Solution,
     /// A whole solution sheet whose last q + 1 words may hold anything.
     SolutionFront,
+    /// A raw reading for each column of the program.
+    Columns,
+    /// A raw reading for each of its rows.
+    Rows,
 }
 
 impl Length {
     pub fn is_solution(self) -> bool {
-        !matches!(self, Length::Of(_))
+        matches!(self, Length::Solution | Length::SolutionFront)
+    }
+
+    pub fn is_raw(self) -> bool {
+        matches!(self, Length::Columns | Length::Rows)
+    }
+
+    /// The words of a raw vector for this program.
+    pub fn of_program(self, program: &Program) -> usize {
+        if self == Length::Columns {
+            program.columns
+        } else {
+            program.rows
+        }
     }
 
     /// The words that are looked at, given the sheet's layout.
@@ -171,23 +197,42 @@ pub struct Args {
     pub roomy: bool,
 }
 
+/// What is known of the outputs where a call is refused.
+pub enum Room {
+    /// Nothing.
+    Open,
+    /// The counts decide the words of the only output.
+    Counts(fn(&Site) -> Option<usize>),
+    /// The least and the most words of each output.
+    Between(fn(&Shape) -> Vec<(usize, usize)>),
+}
+
+impl Room {
+    fn bounds(&self, site: &Site) -> Option<Vec<(usize, usize)>> {
+        match self {
+            Room::Open => None,
+            Room::Counts(words) => words(site).map(|words| vec![(words, words)]),
+            Room::Between(bounds) => site.shape.as_ref().map(bounds),
+        }
+    }
+}
+
 /// A call and how it is checked.
 pub struct Op {
     pub name: &'static str,
     /// What the index argument counts.
     pub index: Option<Count>,
-    /// Lent sheet readings: each list's name and its length.
+    /// Lent readings: each list's name and its length.
     pub lists: &'static [(&'static str, Length)],
-    /// Whether the bits argument is a power, a raw reading.
-    pub power: bool,
+    /// Whether the bits argument is a raw reading: a power, an objective.
+    pub raw: bool,
     /// Lent outputs.
     pub sheets: &'static [(&'static str, Word)],
     /// Numbers that the call can answer.
     pub numbers: &'static [u8],
     /// Draws of arguments for each good network.
     pub rounds: usize,
-    /// Words of the result where counts alone decide it.
-    need: fn(&Site) -> Option<usize>,
+    room: Room,
     /// The answer where no number from 1 to 6 holds.
     answer: fn(&Site, &Args) -> Answer,
     invoke: fn(&mut Memory, &Args) -> u64,
@@ -201,8 +246,12 @@ fn one_a_bus(site: &Site) -> Option<usize> {
     site.count(Count::Buses)
 }
 
-fn not_by_counts(_: &Site) -> Option<usize> {
-    None
+fn whole_sheet(site: &Site) -> Option<usize> {
+    site.shape.as_ref().map(|shape| shape.blocks.length())
+}
+
+fn of_program(shape: &Shape) -> Vec<(usize, usize)> {
+    shape.program_bounds().to_vec()
 }
 
 pub static OPS: &[Op] = &[
@@ -210,11 +259,11 @@ pub static OPS: &[Op] = &[
         name: "network_number",
         index: None,
         lists: &[],
-        power: false,
+        raw: false,
         sheets: &[],
         numbers: &[0, 1, 2, 3],
         rounds: 1,
-        need: not_by_counts,
+        room: Room::Open,
         answer: |_, _| Answer { count: 0, fronts: vec![] },
         invoke: |memory, _| abi::network_number(memory.network()),
     },
@@ -222,11 +271,11 @@ pub static OPS: &[Op] = &[
         name: "shed_cap",
         index: Some(Count::Buses),
         lists: &[],
-        power: false,
+        raw: false,
         sheets: &[("out", Word::F64)],
         numbers: &[0, 1, 2, 3, 5, 7],
         rounds: 3,
-        need: one_word,
+        room: Room::Counts(one_word),
         answer: |site, args| one(site.oracle().shed_cap(args.index)),
         invoke: |memory, args| {
             let out = memory.sheet(0);
@@ -237,11 +286,11 @@ pub static OPS: &[Op] = &[
         name: "current_flow_offset",
         index: Some(Count::Branches),
         lists: &[],
-        power: false,
+        raw: false,
         sheets: &[("out", Word::F64)],
         numbers: &[0, 1, 2, 3, 5, 7],
         rounds: 2,
-        need: one_word,
+        room: Room::Counts(one_word),
         answer: |site, args| one(site.oracle().current_flow_offset(args.index)),
         invoke: |memory, args| {
             let out = memory.sheet(0);
@@ -252,11 +301,11 @@ pub static OPS: &[Op] = &[
         name: "generator_cost",
         index: Some(Count::Generators),
         lists: &[],
-        power: true,
+        raw: true,
         sheets: &[("out", Word::F64)],
         numbers: &[0, 1, 2, 3, 5, 7],
         rounds: 3,
-        need: one_word,
+        room: Room::Counts(one_word),
         answer: |site, args| {
             one(site.oracle().generator_cost(args.index, f64::from_bits(args.bits)))
         },
@@ -269,11 +318,11 @@ pub static OPS: &[Op] = &[
         name: "evaluate",
         index: Some(Count::Rows),
         lists: &[("f", Length::Of(Count::Branches)), ("pg", Length::Of(Count::Generators))],
-        power: false,
+        raw: false,
         sheets: &[("out", Word::F64)],
         numbers: &[0, 1, 2, 3, 5, 7],
         rounds: 3,
-        need: one_word,
+        room: Room::Counts(one_word),
         answer: |site, args| {
             let (f, pg) = (paper::doubles(&args.lists[0]), paper::doubles(&args.lists[1]));
             one(site.oracle().evaluate(args.index, &f, &pg))
@@ -288,11 +337,11 @@ pub static OPS: &[Op] = &[
         name: "row_kind",
         index: Some(Count::Rows),
         lists: &[],
-        power: false,
+        raw: false,
         sheets: &[],
         numbers: &[0, 1, 2, 3, 5],
         rounds: 3,
-        need: not_by_counts,
+        room: Room::Open,
         answer: |site, args| Answer { count: row_kind(site, args.index), fronts: vec![] },
         invoke: |memory, args| abi::row_kind(memory.network(), args.index),
     },
@@ -300,11 +349,11 @@ pub static OPS: &[Op] = &[
         name: "phase_withdrawal",
         index: None,
         lists: &[],
-        power: false,
+        raw: false,
         sheets: &[("out", Word::F64)],
         numbers: &[0, 1, 2, 3, 7],
         rounds: 1,
-        need: one_a_bus,
+        room: Room::Counts(one_a_bus),
         answer: |site, _| all(site.oracle().phase_withdrawal()),
         invoke: |memory, _| {
             let out = memory.sheet(0);
@@ -315,11 +364,11 @@ pub static OPS: &[Op] = &[
         name: "network_withdrawal",
         index: None,
         lists: &[],
-        power: false,
+        raw: false,
         sheets: &[("out", Word::F64)],
         numbers: &[0, 1, 2, 3, 7],
         rounds: 1,
-        need: one_a_bus,
+        room: Room::Counts(one_a_bus),
         answer: |site, _| all(site.oracle().network_withdrawal()),
         invoke: |memory, _| {
             let out = memory.sheet(0);
@@ -330,11 +379,11 @@ pub static OPS: &[Op] = &[
         name: "current_fixed_withdrawal",
         index: None,
         lists: &[],
-        power: false,
+        raw: false,
         sheets: &[("out", Word::F64)],
         numbers: &[0, 1, 2, 3, 7],
         rounds: 1,
-        need: one_a_bus,
+        room: Room::Counts(one_a_bus),
         answer: |site, _| all(site.oracle().current_fixed_withdrawal()),
         invoke: |memory, _| {
             let out = memory.sheet(0);
@@ -345,11 +394,11 @@ pub static OPS: &[Op] = &[
         name: "susceptance_coo",
         index: None,
         lists: &[],
-        power: false,
+        raw: false,
         sheets: &[("rows", Word::U32), ("cols", Word::U32), ("values", Word::F64)],
         numbers: &[0, 1, 2, 3, 7],
         rounds: 2,
-        need: not_by_counts,
+        room: Room::Open,
         answer: |site, _| triplets(site.oracle().susceptance_coo()),
         invoke: |memory, _| {
             let (rows, cols, values) = (memory.sheet(0), memory.sheet(1), memory.sheet(2));
@@ -360,11 +409,11 @@ pub static OPS: &[Op] = &[
         name: "snap",
         index: None,
         lists: &[("solution", Length::Solution)],
-        power: false,
+        raw: false,
         sheets: &[("out", Word::F64)],
         numbers: &[0, 1, 2, 3, 7],
         rounds: 1,
-        need: |site| site.shape.as_ref().map(|shape| shape.blocks.length()),
+        room: Room::Counts(whole_sheet),
         answer: |site, args| all(site.oracle().snap(&paper::doubles(&args.lists[0]))),
         invoke: |memory, _| {
             let out = memory.sheet(0);
@@ -375,11 +424,11 @@ pub static OPS: &[Op] = &[
         name: "snap_linear",
         index: None,
         lists: &[("solution", Length::Solution)],
-        power: false,
+        raw: false,
         sheets: &[("out", Word::F64)],
         numbers: &[0, 1, 2, 3, 7],
         rounds: 1,
-        need: |site| site.count(Count::Rows).map(|rows| 3 * rows),
+        room: Room::Counts(|site| site.count(Count::Rows).map(|rows| 3 * rows)),
         answer: |site, args| {
             let duals = site.oracle().snap_linear(&paper::doubles(&args.lists[0]));
             all(duals.into_iter().flatten().collect())
@@ -393,11 +442,11 @@ pub static OPS: &[Op] = &[
         name: "nu_flow_values",
         index: None,
         lists: &[("solution", Length::Solution)],
-        power: false,
+        raw: false,
         sheets: &[("out", Word::F64)],
         numbers: &[0, 1, 2, 3, 7],
         rounds: 1,
-        need: |site| site.count(Count::Branches),
+        room: Room::Counts(|site| site.count(Count::Branches)),
         answer: |site, args| all(site.oracle().nu_flow_values(&paper::doubles(&args.lists[0]))),
         invoke: |memory, _| {
             let out = memory.sheet(0);
@@ -408,11 +457,11 @@ pub static OPS: &[Op] = &[
         name: "kkt_triplets",
         index: None,
         lists: &[("solution", Length::SolutionFront)],
-        power: false,
+        raw: false,
         sheets: &[("rows", Word::U32), ("cols", Word::U32), ("values", Word::F64)],
         numbers: &[0, 1, 2, 3, 7],
         rounds: 1,
-        need: not_by_counts,
+        room: Room::Between(|shape| vec![(shape.matrix_least(), shape.matrix_most()); 3]),
         answer: |site, args| {
             let list = site.oracle().jacobian(&paper::doubles(&args.lists[0]));
             assert!(list.len() <= site.shape().matrix_most(), "the paper's bound of the list");
@@ -424,7 +473,105 @@ pub static OPS: &[Op] = &[
             abi::kkt_triplets(memory.network(), memory.list(0), rows, cols, values)
         },
     },
+    Op {
+        name: "nodal_marginal_values",
+        index: None,
+        lists: &[("solution", Length::Solution)],
+        raw: false,
+        sheets: &[("out", Word::F64)],
+        numbers: &[0, 1, 2, 3, 7],
+        rounds: 1,
+        room: Room::Counts(one_a_bus),
+        answer: |site, args| {
+            all(site.oracle().nodal_marginal_values(&paper::doubles(&args.lists[0])))
+        },
+        invoke: |memory, _| {
+            let out = memory.sheet(0);
+            program::nodal_marginal_values(memory.network(), memory.list(0), out)
+        },
+    },
+    Op {
+        name: "read_dc_solution",
+        index: None,
+        lists: &[("x", Length::Columns), ("z", Length::Rows)],
+        raw: true,
+        sheets: &[("out", Word::F64)],
+        numbers: &[0, 1, 2, 3, 7],
+        rounds: 1,
+        room: Room::Counts(whole_sheet),
+        answer: |site, args| {
+            let (x, z) = (paper::doubles(&args.lists[0]), paper::doubles(&args.lists[1]));
+            all(site.oracle().read_dc_solution(&x, &z, f64::from_bits(args.bits)))
+        },
+        invoke: |memory, args| {
+            let out = memory.sheet(0);
+            let (x, z) = (memory.list(0), memory.list(1));
+            program::read_dc_solution(memory.network(), x, z, args.bits, out)
+        },
+    },
+    Op {
+        name: "assemble_opf",
+        index: None,
+        lists: &[],
+        raw: false,
+        sheets: &OUTPUTS,
+        numbers: &[0, 1, 2, 3, 7],
+        rounds: 1,
+        room: Room::Between(of_program),
+        answer: |site, _| assembly(site),
+        invoke: |memory, _| {
+            let sheets = memory.program_sheets();
+            program::assemble_opf(memory.network(), sheets)
+        },
+    },
+    Op {
+        name: "assemble_opf by words",
+        index: None,
+        lists: &[],
+        raw: false,
+        sheets: &OUTPUTS,
+        numbers: &[0, 1, 2, 3, 7],
+        rounds: 1,
+        room: Room::Between(of_program),
+        answer: |site, _| assembly(site),
+        invoke: |memory, _| {
+            let sheets = memory.program_sheets();
+            program::typed_assemble_opf(memory.network(), sheets)
+        },
+    },
 ];
+
+/// The outputs of assembly.
+const OUTPUTS: [(&str, Word); 9] = [
+    ("P's rows", Word::U32),
+    ("P's columns", Word::U32),
+    ("P's values", Word::F64),
+    ("A's rows", Word::U32),
+    ("A's columns", Word::U32),
+    ("A's values", Word::F64),
+    ("q", Word::F64),
+    ("b", Word::F64),
+    ("cones", Word::U32),
+];
+
+/// A's count has 24 bits, P's those above.
+const P_COUNT: u32 = 24;
+
+fn assembly(site: &Site) -> Answer {
+    let program = site.oracle().assemble();
+    let sizes = Program { columns: program.columns, rows: program.rows, decided: true };
+    assert!(site.program == Some(sizes), "columns and rows by the paper and by the original");
+    let (p, a) = (triplets(program.p), triplets(program.a));
+    let mut fronts = p.fronts;
+    fronts.extend(a.fronts);
+    fronts.extend([Front::F64(program.q), Front::F64(program.b)]);
+    fronts.push(Front::U32(program.cones.iter().map(|&size| size as u32).collect()));
+    let within =
+        |(front, (least, most)): (&Front, (usize, usize))| (least..=most).contains(&front.len());
+    let bounds = site.shape().program_bounds();
+    assert!(fronts.iter().zip(bounds).all(within), "bounds of the program");
+    Answer { count: a.count | p.count << P_COUNT, fronts }
+}
 
 fn triplets(list: Vec<(usize, usize, f64)>) -> Answer {
     Answer {
@@ -458,7 +605,7 @@ impl Op {
         for &low in self.numbers.iter().filter(|&&number| number > 0) {
             for &high in self.numbers.iter().filter(|&&number| number > low) {
                 let readable = low > 1 || !self.lists.is_empty();
-                let sized = high != 7 || self.sheets.len() == 1 || self.solved();
+                let sized = high != 7 || !matches!(self.room, Room::Open);
                 if readable && sized {
                     pairs.push((low, high));
                 }
@@ -471,15 +618,21 @@ impl Op {
     pub fn draw(&self, site: &Site, rng: &mut Rng) -> Args {
         let size = |count: Count| site.count(count).unwrap_or(3);
         let mut list = |length: Length| match length {
-            Length::Of(count) => draw_list(rng, size(count)),
+            Length::Of(count) => draw_list(rng, size(count), SHEET_LIMIT, sheet_value),
+            Length::Columns | Length::Rows => {
+                draw_list(rng, programs::length(site, length), READING_LIMIT, value)
+            }
             _ => solutions::draw(rng, site, length == Length::SolutionFront),
         };
         let lists = self.lists.iter().map(|of| list(of.1)).collect();
         Args {
             index: self.index.map_or(0, |count| draw_index(rng, size(count))),
-            bits: if self.power { draw_power(rng) } else { 0 },
+            bits: if self.raw { draw_raw(rng) } else { 0 },
             lists,
-            lends: draw_lends(rng, self.sheets.len()),
+            lends: match self.sheets.len() {
+                9 => programs::draw_lends(rng),
+                sheets => draw_lends(rng, sheets),
+            },
             roomy: rng.percent(50),
         }
     }
@@ -489,13 +642,29 @@ impl Op {
         self.lists.iter().any(|list| list.1.is_solution())
     }
 
-    /// A solution sheet in order and outputs that the result fits, for an accepted network.
+    /// Whether the call takes or makes the program.
+    pub fn programmed(&self) -> bool {
+        self.sheets.len() == 9 || self.lists.iter().any(|list| list.1.is_raw())
+    }
+
+    /// Whether the call takes typed slices, which have whole words.
+    pub fn typed(&self) -> bool {
+        self.name == "assemble_opf by words"
+    }
+
+    /// Readings in order and outputs that the result fits, for an accepted network.
     pub fn draw_sound(&self, site: &Site, rng: &mut Rng) -> Args {
-        let mut sheet = |length| solutions::sound(rng, site, length == Length::SolutionFront);
+        let mut sheet = |length: Length| match length {
+            Length::Columns | Length::Rows => programs::sound(rng, site, length),
+            _ => solutions::sound(rng, site, length == Length::SolutionFront),
+        };
         let lists = self.lists.iter().map(|list| bytes_of_doubles(&sheet(list.1))).collect();
         let longer = |rng: &mut Rng| if rng.percent(30) { rng.between(1, 5) as i32 } else { 0 };
-        let lends = self.sheets.iter().map(|_| Lend { words: longer(rng), leftover: 0 }).collect();
-        Args { lists, lends, ..Args::default() }
+        let bits = if self.raw { value(rng).to_bits() } else { 0 };
+        let exact = self.programmed() && rng.percent(50);
+        let mut words = |_| if exact { 0 } else { longer(rng) };
+        let lends = self.sheets.iter().map(|of| Lend { words: words(of), leftover: 0 }).collect();
+        Args { lists, lends, bits, ..Args::default() }
     }
 
     /// Numbers from 1 to 5 that hold of the network and the arguments.
@@ -508,7 +677,11 @@ impl Op {
             held = held.and(Held::when(5, args.index >= site.shape().count(count)));
         }
         for (list, &(_, length)) in args.lists.iter().zip(self.lists) {
-            if let Length::Of(count) = length {
+            if length.is_raw() {
+                let decided = site.program.as_ref().filter(|program| program.decided);
+                let words = decided.map(|program| length.of_program(program));
+                held = held.and(paper::raw_held(list, words));
+            } else if let Length::Of(count) = length {
                 let broken = |place| !within(double(list, place), SHEET_LIMIT);
                 held = held.and(Held::when(1, list.len() != 8 * site.shape().count(count)));
                 held = held.and(Held::when(3, (0..list.len() / 8).any(broken)));
@@ -517,11 +690,19 @@ impl Op {
                 held = held.and(paper::solution_held(list, site.shape(), looked_at));
             }
         }
-        if self.power {
-            let power = f64::from_bits(args.bits);
-            held = held.and(Held::when(3, !within(power, READING_LIMIT)));
+        if self.raw {
+            let raw = f64::from_bits(args.bits);
+            held = held.and(Held::when(3, !within(raw, READING_LIMIT)));
         }
         held
+    }
+
+    /// The number that would do as well: where the program's size is open, so is whether the
+    /// length of a raw vector is wrong.
+    fn also(&self, site: &Site) -> Option<u8> {
+        let raw = self.lists.iter().any(|list| list.1.is_raw());
+        let open = site.program.map_or(false, |program| !program.decided);
+        (raw && open).then_some(1)
     }
 }
 
@@ -543,22 +724,22 @@ fn draw_broken(rng: &mut Rng, limit: f64) -> f64 {
     broken_double(rng, fault, limit)
 }
 
-fn draw_power(rng: &mut Rng) -> u64 {
-    let power = if rng.percent(10) { draw_broken(rng, READING_LIMIT) } else { value(rng) };
-    power.to_bits()
+fn draw_raw(rng: &mut Rng) -> u64 {
+    let raw = if rng.percent(10) { draw_broken(rng, READING_LIMIT) } else { value(rng) };
+    raw.to_bits()
 }
 
-fn draw_list(rng: &mut Rng, length: usize) -> Vec<u8> {
+fn draw_list(rng: &mut Rng, length: usize, limit: f64, word: fn(&mut Rng) -> f64) -> Vec<u8> {
     let form = rng.below(100);
     let words = match form {
         0..=3 => length.saturating_sub(1),
         4..=7 => length + 1,
         _ => length,
     };
-    let mut list: Vec<f64> = (0..words).map(|_| sheet_value(rng)).collect();
+    let mut list: Vec<f64> = (0..words).map(|_| word(rng)).collect();
     if words > 0 && rng.percent(8) {
         let place = rng.pick(&[0, words / 2, words - 1]);
-        list[place] = draw_broken(rng, SHEET_LIMIT);
+        list[place] = draw_broken(rng, limit);
     }
     let mut bytes = bytes_of_doubles(&list);
     if (8..=10).contains(&form) {
@@ -573,7 +754,7 @@ fn draw_list(rng: &mut Rng, length: usize) -> Vec<u8> {
     bytes
 }
 
-fn draw_lend(rng: &mut Rng) -> Lend {
+pub fn draw_lend(rng: &mut Rng) -> Lend {
     let leftover = rng.between(1, 7) as u8;
     match rng.below(100) {
         0..=49 => Lend { words: 0, leftover: 0 },
@@ -607,6 +788,8 @@ fn draw_lends(rng: &mut Rng, sheets: usize) -> Vec<Lend> {
 /// What a call must do, with the bytes it is lent for each output.
 pub struct Expected {
     pub number: u8,
+    /// Another number that would do, with nothing written either.
+    pub also: Option<u8>,
     pub count: u64,
     /// Empty on refusal.
     pub fronts: Vec<Front>,
@@ -629,29 +812,32 @@ fn expect(op: &Op, site: &Site, args: &Args) -> Expected {
         Held::when(7, all.into_iter().any(|((&bytes, sheet), &need)| bytes / sheet.1.size() < need))
     };
     if held.lowest() > 0 {
-        let need = (op.need)(site);
-        let room = |shape: &Shape| if args.roomy { shape.matrix_most() } else { OPEN_RESULT };
-        let open = site.shape.as_ref().filter(|_| op.solved()).map_or(OPEN_RESULT, room);
-        let needs = vec![need.unwrap_or(open); op.sheets.len()];
+        let bounds = op.room.bounds(site);
+        let needs: Vec<usize> = match (&op.room, &bounds) {
+            (Room::Counts(_), Some(bounds)) => bounds.iter().map(|words| words.0).collect(),
+            (_, Some(bounds)) if args.roomy => bounds.iter().map(|words| words.1).collect(),
+            _ => vec![OPEN_RESULT; op.sheets.len()],
+        };
         let sheets = lent(&needs);
-        let held = match &site.shape {
-            Some(_) if need.is_some() => held.and(short(&sheets, &needs)),
-            Some(shape) if op.solved() => {
-                let least = vec![shape.matrix_least(); op.sheets.len()];
+        let held = match bounds.filter(|_| site.shape.is_some()) {
+            Some(bounds) => {
+                let least: Vec<usize> = bounds.iter().map(|words| words.0).collect();
                 held.and(short(&sheets, &least))
             }
-            _ => held,
+            None => held,
         };
-        return Expected { number: held.lowest(), count: 0, fronts: vec![], sheets, held };
+        let (number, also) = (held.lowest(), op.also(site));
+        return Expected { number, also, count: 0, fronts: vec![], sheets, held };
     }
     let answer = (op.answer)(site, args);
     let needs: Vec<usize> = answer.fronts.iter().map(|front| front.len()).collect();
     let sheets = lent(&needs);
     let held = short(&sheets, &needs);
     if held.lowest() > 0 {
-        return Expected { number: 7, count: 0, fronts: vec![], sheets, held };
+        return Expected { number: 7, also: None, count: 0, fronts: vec![], sheets, held };
     }
-    Expected { number: 0, count: answer.count, fronts: answer.fronts, sheets, held }
+    let Answer { count, fronts } = answer;
+    Expected { number: 0, also: None, count, fronts, sheets, held }
 }
 
 /// The sign of a zero is set aside, and one NaN is as good as another.
@@ -668,9 +854,16 @@ fn difference(
     memory: &Memory,
     answer: u64,
 ) -> Option<(String, String)> {
-    let show = |number: u64, count: u64| format!("number {}, count {}", number, count);
+    let show = |number: u64, count: u64| match op.sheets.len() {
+        9 => {
+            let (a, p) = (count & ((1 << P_COUNT) - 1), count >> P_COUNT);
+            format!("number {}, {} triplets of A, {} of P", number, a, p)
+        }
+        _ => format!("number {}, count {}", number, count),
+    };
     let due = show(u64::from(expected.number), expected.count);
-    if answer != u64::from(expected.number) + 256 * expected.count {
+    let would_do = expected.also.map(u64::from) == Some(answer);
+    if answer != u64::from(expected.number) + 256 * expected.count && !would_do {
         return Some((due, show(answer % 256, answer / 256)));
     }
     for (sheet, &(name, word)) in op.sheets.iter().enumerate() {

@@ -9,8 +9,11 @@ mod marks;
 #[cfg(feature = "mock")]
 mod mock;
 mod paper;
+mod program_marks;
+mod programs;
 mod random;
 mod record;
+mod record_program;
 mod report;
 mod runs;
 mod shrink;
@@ -28,21 +31,24 @@ use damage::{Damage, Place};
 use marks::mark_network;
 use paper::{bytes_of_doubles, bytes_of_words, Count, Lent};
 use random::Rng;
-use report::{Coverage, Mismatch, FLOOR, SHEET_FLOOR};
+use report::{call_rows, print_rows, CallTally, Coverage, Mismatch, FLOOR, SHEET_FLOOR};
 use runs::Runs;
 
 const HELP: &str = "\
 compare: runs the exports beside the original Rust on generated networks
 
   --cases N     at least N good and N damaged networks, and half as many good ones on which
-                only the calls with a solution sheet run, near their thresholds, and a
-                sixth as many runs of site changes (200000)
+                only the calls with a solution sheet and those on the program run, near the
+                thresholds of snapping, and a sixth as many runs of site changes (200000)
   --seconds N   stop after N seconds, which is a failure before --cases is reached (240)
   --seed S      another seed gives other networks (1)
   --quick       neither the time bound nor the coverage floors count as failures
   --record N FILE
                 compares nothing, but writes N small networks with solution sheets and the
                 original's matrix of each to FILE, one a line
+  --record-opf N FILE
+                compares nothing, but writes N small networks with a solver's vectors and the
+                original's program, solution sheet and marginal values of each to FILE
   --program FILE
                 compares no exports, but what the program sitechange, built as FILE, prints
   --help        this text
@@ -55,6 +61,7 @@ struct Options {
     seed: u64,
     quick: bool,
     record: Option<(u64, String)>,
+    record_opf: Option<(u64, String)>,
     program: Option<String>,
 }
 
@@ -65,6 +72,7 @@ fn options() -> Result<Option<Options>, String> {
         seed: 1,
         quick: false,
         record: None,
+        record_opf: None,
         program: None,
     };
     let mut words = std::env::args().skip(1);
@@ -78,10 +86,13 @@ fn options() -> Result<Option<Options>, String> {
             "--seconds" => options.seconds = number()?,
             "--seed" => options.seed = number()?,
             "--quick" => options.quick = true,
-            "--record" => {
+            "--record" | "--record-opf" => {
                 let count = number()?;
-                let file = words.next().ok_or("--record needs a file")?;
-                options.record = Some((count, file));
+                let file = words.next().ok_or(format!("{} needs a file", option))?;
+                match option.as_str() {
+                    "--record" => options.record = Some((count, file)),
+                    _ => options.record_opf = Some((count, file)),
+                }
             }
             "--program" => options.program = Some(words.next().ok_or("--program needs a file")?),
             "--help" | "-h" => return Ok(None),
@@ -110,8 +121,7 @@ struct Run {
     solved: u64,
     largest: u64,
     damaged_sheets: u64,
-    calls: u64,
-    mismatches: u64,
+    tallies: Vec<CallTally>,
     smallest: Option<Mismatch>,
     runs: Runs,
 }
@@ -132,11 +142,18 @@ impl Run {
             solved: 0,
             largest: 0,
             damaged_sheets: 0,
-            calls: 0,
-            mismatches: 0,
+            tallies: vec![CallTally::default(); OPS.len()],
             smallest: None,
             runs: Runs::new(),
         }
+    }
+
+    fn calls(&self) -> u64 {
+        self.tallies.iter().map(|tally| tally.calls).sum()
+    }
+
+    fn mismatches(&self) -> u64 {
+        self.tallies.iter().map(|tally| tally.mismatches).sum::<u64>() + self.runs.mismatches
     }
 
     fn one_good(&mut self, serial: u64) {
@@ -176,25 +193,30 @@ impl Run {
     }
 
     /// A good network whose readings lie near the thresholds of snapping: each call that
-    /// takes a solution sheet, once with all in order and half of the time with anything.
+    /// takes a solution sheet or is about the program, once with all in order and half of the
+    /// time with anything.
     fn one_solved(&mut self, serial: u64) {
         let case = SOLVED_CASES + serial;
         let mut rng = self.case(case);
         let sizes = generate::solved_sizes(&mut rng, serial);
         let mut parts = generate::parts(&mut rng, &sizes);
         solutions::tune(&mut rng, &mut parts);
+        programs::tune(&mut rng, &mut parts);
         let site = Site::new(parts.encode());
         assert!(site.held.lowest() == 0, "case {}: a good network is accepted", case);
         self.solved += 1;
         self.largest += u64::from(Count::ALL.iter().all(|&c| parts.count(c) == c.limit()));
         self.memory.fill_network(&site.lent);
-        for (place, op) in OPS.iter().enumerate().filter(|(_, op)| op.solved()) {
+        let calls = || OPS.iter().enumerate();
+        for (place, op) in calls().filter(|(_, op)| op.solved() || op.programmed()) {
+            let before = self.cover.accepted(place);
             let args = op.draw_sound(&site, &mut rng);
             self.call(place, &site, &args, case, &mut rng);
             if rng.percent(50) {
                 let args = op.draw(&site, &mut rng);
                 self.call(place, &site, &args, case, &mut rng);
             }
+            self.tallies[place].networks += u64::from(self.cover.accepted(place) > before);
         }
     }
 
@@ -223,7 +245,8 @@ impl Run {
         Site::new(damage::damaged(rng, sizes, &damages))
     }
 
-    /// Makes every call on a network, those with a solution sheet on half of the damaged ones.
+    /// Makes every call on a network, those with a solution sheet or raw vectors on half of the
+    /// damaged ones, and those on the program with all in order too on the accepted ones.
     fn visit(&mut self, site: &Site, case: u64, rng: &mut Rng, rounds: fn(&Op) -> usize) {
         if site.held.lowest() == 0 {
             self.good += 1;
@@ -232,27 +255,35 @@ impl Run {
         }
         mark_network(site, &mut self.cover);
         self.memory.fill_network(&site.lent);
-        let with_sheet = site.held.lowest() == 0 || rng.percent(50);
-        self.damaged_sheets += u64::from(with_sheet && site.held.lowest() > 0);
-        let calls = OPS.iter().enumerate().filter(|(_, op)| with_sheet || !op.solved());
-        for (place, op) in calls {
+        let accepted = site.held.lowest() == 0;
+        let with_sheet = accepted || rng.percent(50);
+        self.damaged_sheets += u64::from(with_sheet && !accepted);
+        let takes = |op: &Op| op.solved() || (op.programmed() && !op.lists.is_empty());
+        let calls = OPS.iter().enumerate().filter(|(_, op)| with_sheet || !takes(op));
+        for (place, op) in calls.filter(|(_, op)| !op.typed() || site.whole()) {
+            let before = self.cover.accepted(place);
             for _ in 0..rounds(op) {
                 let args = op.draw(site, rng);
                 self.call(place, site, &args, case, rng);
             }
+            if accepted && op.programmed() {
+                let args = op.draw_sound(site, rng);
+                self.call(place, site, &args, case, rng);
+            }
+            self.tallies[place].networks += u64::from(self.cover.accepted(place) > before);
         }
     }
 
     fn call(&mut self, place: usize, site: &Site, args: &Args, case: u64, rng: &mut Rng) {
         let cover = Some(&mut self.cover);
-        self.calls += 1;
+        self.tallies[place].calls += 1;
         if let Some(found) = check(place, site, args, &mut self.memory, rng, cover) {
             self.keep(found, case);
         }
     }
 
     fn keep(&mut self, mut found: Mismatch, case: u64) {
-        self.mismatches += 1;
+        self.tallies[found.op].mismatches += 1;
         found.origin = self.origin(case);
         if self.smallest.as_ref().map_or(true, |least| found.size() < least.size()) {
             self.smallest = Some(found);
@@ -277,6 +308,14 @@ impl Run {
                 let lends = vec![Lend::default(); op.sheets.len()];
                 let args = Args { lists, lends, ..Args::default() };
                 self.call(place, &site, &args, 0, &mut rng);
+            }
+            for (place, _) in OPS.iter().enumerate().filter(|(_, op)| op.sheets.len() == 9) {
+                for one in 0..programs::OUTPUTS {
+                    for lends in [programs::one_short(one, 0), programs::one_short(one, 3)] {
+                        let args = Args { lends, ..Args::default() };
+                        self.call(place, &site, &args, 0, &mut rng);
+                    }
+                }
             }
         }
         self.runs.bench();
@@ -305,7 +344,7 @@ fn run(options: &Options, run: &mut Run) -> bool {
             run.one_run(serial / 6);
         }
         serial += 1;
-        if run.mismatches + run.runs.mismatches > 0 && last == u64::MAX {
+        if run.mismatches() > 0 && last == u64::MAX {
             last = serial + FURTHER;
         }
     }
@@ -320,12 +359,14 @@ fn compare(options: &Options) -> bool {
     let in_time = run(options, &mut tally);
     let time = start.elapsed();
     let low = tally.cover.print(&tally.damages) + tally.runs.print();
+    let low = low + print_rows(&call_rows(&tally.tallies, options.cases));
     if let Some(mismatch) = tally.smallest.take() {
         shrink::shrink(mismatch, &mut tally.memory, options.seed).print();
     }
     if low > 0 {
         println!(
-            "coverage: {} rows below the floor of {} ({} for solution sheets and runs of changes)",
+            "coverage: {} rows below the floor of {} ({} for solution sheets, programs and runs of \
+             changes)",
             low, FLOOR, SHEET_FLOOR
         );
     }
@@ -335,7 +376,7 @@ fn compare(options: &Options) -> bool {
     println!(
         "time: {:.1} s, {:.2} us a call with its check",
         time.as_secs_f64(),
-        time.as_secs_f64() * 1e6 / tally.calls.max(1) as f64
+        time.as_secs_f64() * 1e6 / tally.calls().max(1) as f64
     );
     println!(
         "solution sheets: on {} accepted networks, of which {} near the thresholds and {} of \
@@ -346,10 +387,17 @@ fn compare(options: &Options) -> bool {
         tally.damaged_sheets
     );
     println!("runs of changes: {}, {} changes", tally.runs.count(), tally.runs.calls());
-    let mismatches = tally.mismatches + tally.runs.mismatches;
+    for (op, tally) in OPS.iter().zip(&tally.tallies).filter(|(op, _)| op.programmed()) {
+        let CallTally { calls, mismatches, networks } = tally;
+        println!(
+            "{}: {} accepted networks, {} calls, {} mismatches",
+            op.name, networks, calls, mismatches
+        );
+    }
+    let (calls, mismatches) = (tally.calls(), tally.mismatches());
     println!(
         "compare: {} good and {} damaged networks, {} calls, {} mismatches",
-        tally.good, tally.damaged, tally.calls, mismatches
+        tally.good, tally.damaged, calls, mismatches
     );
     mismatches == 0 && (options.quick || (low == 0 && in_time))
 }
@@ -370,14 +418,18 @@ fn main() -> ExitCode {
         println!("compare: the oracle fails its own test: {}", error);
         return ExitCode::FAILURE;
     }
-    if let Some((count, file)) = &options.record {
-        return match record::write(options.seed, *count, file) {
-            Ok(()) => ExitCode::SUCCESS,
-            Err(error) => {
-                eprintln!("compare: {}: {}", file, error);
-                ExitCode::from(2)
-            }
-        };
+    let recorders: [(_, fn(u64, u64, &str) -> std::io::Result<()>); 2] =
+        [(&options.record, record::write), (&options.record_opf, record_program::write)];
+    for (what, write) in recorders {
+        if let Some((count, file)) = what {
+            return match write(options.seed, *count, file) {
+                Ok(()) => ExitCode::SUCCESS,
+                Err(error) => {
+                    eprintln!("compare: {}: {}", file, error);
+                    ExitCode::from(2)
+                }
+            };
+        }
     }
     if let Some(program) = &options.program {
         return match runs::program::hold(program) {

@@ -5,6 +5,7 @@ use crate::generate::{above, below};
 use crate::paper::{
     self, tolerance, within, word, Count, Field, Wire, ALLOW_SHED, READING_LIMIT, SHEET_LIMIT,
 };
+use crate::program_marks::mark_program;
 use crate::report::{Coverage, Mark};
 use crate::states::{mark_outputs, mark_solution};
 
@@ -30,6 +31,9 @@ pub fn mark_call(
     if op.solved() {
         mark_solution(place, site, &args.lists[0], expected.number, cover);
         mark_outputs(place, site, args, expected, cover);
+    }
+    if op.programmed() {
+        mark_program(place, site, args, expected, cover);
     }
     match op.name {
         "shed_cap" if expected.number == 0 => mark_shed_cap(site, args.index, cover),

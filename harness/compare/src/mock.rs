@@ -205,6 +205,9 @@ macro_rules! export {
     };
 }
 
+#[path = "mock_program.rs"]
+mod program;
+
 export!(capi_network_number() lent, site => site.map(|_| 0));
 
 export!(capi_shed_cap(bus: usize, out: *mut u8, length: usize) lent, site => site.and_then(|site| {

@@ -487,6 +487,19 @@ impl Shape {
         4 * self.counts[Count::Buses as usize]
     }
 
+    /// The least and the most words of each output of assembly, in their order: P's and A's
+    /// rows, columns and values, q, b, cone sizes. A zero is dropped, so that only the entries
+    /// 1 and -1 of A are sure, and of them those that no flag decides.
+    pub fn program_bounds(&self) -> [(usize, usize); 9] {
+        let [n, m, k, r, s, q, t] = self.counts;
+        let p = (0, k);
+        let a = (m + k + r + s, 13 * m + 3 * k + 3 * n + r + 2 * s + 2 * t);
+        let columns = n + k + m + self.blocks.range(Block::Epigraphs).len();
+        let rows = n + m + r + s;
+        let (costs, sides) = ((columns, columns + n), (rows, rows + 4 * m + 2 * (k + n + q)));
+        [p, p, p, a, a, a, costs, sides, (2, 4)]
+    }
+
     fn new(counts: [usize; 7]) -> Shape {
         let mut shape = Shape {
             counts,
@@ -577,6 +590,53 @@ pub fn solution_held(sheet: &[u8], shape: &Shape, looked_at: usize) -> Held {
     let broken = |place| !within(double(sheet, place), SHEET_LIMIT);
     let one = Held::when(1, sheet.len() != 8 * shape.blocks.length());
     one.and(Held::when(3, (0..words).any(broken)))
+}
+
+/// The size of a network's program.
+#[derive(Clone, Copy, Debug, PartialEq, Eq)]
+pub struct Program {
+    pub columns: usize,
+    pub rows: usize,
+    /// Whether the paper decides it: where a flag, a mask or allow_shed is outside its values,
+    /// it leaves open what has a row. Here, then, flags other than 0 and none of the rest.
+    pub decided: bool,
+}
+
+/// "Columns va, pg, f, shed, cost. Rows: balance n, flow m, reference R, then .. thermal,
+/// generator, shed, angle; segments; linear equalities; linear inequalities", where "a shed
+/// column exists if cap > 0".
+pub fn program(lent: &Lent, shape: &Shape) -> Program {
+    let [n, m, k, r, s, _, _] = shape.counts;
+    let wires = |wire: Wire| shape.wire_range(wire).map(|place| word(&lent.wiring, place));
+    let readings = |field: Field| shape.field_range(field).map(|at| double(&lent.readings, at));
+    let flags = || {
+        let both = wires(Wire::ThermalFlags).chain(wires(Wire::GeneratorFlags));
+        both.chain(wires(Wire::AngleFlags))
+    };
+    let allow_shed = word(&lent.wiring, ALLOW_SHED);
+    let sheds = readings(Field::Demand).filter(|&demand| allow_shed == 1 && demand > 0.0).count();
+    let limits = readings(Field::UpperMw).zip(readings(Field::LowerMw));
+    let linear = wires(Wire::RowMasks).zip(limits).map(|(mask, (upper, lower))| match mask {
+        1 | 2 => 1,
+        3 if upper == lower => 1,
+        3 => 2,
+        _ => 0,
+    });
+    let limited = flags().filter(|&flag| flag != 0).count() + sheds;
+    let masks_decided = wires(Wire::RowMasks).all(|mask| mask <= 3);
+    Program {
+        columns: n + k + m + sheds + shape.blocks.range(Block::Epigraphs).len(),
+        rows: n + m + r + 2 * limited + s + linear.sum::<usize>(),
+        decided: allow_shed <= 1 && flags().all(|flag| flag <= 1) && masks_decided,
+    }
+}
+
+/// Numbers 1 and 3 of a raw vector, of this length if it is known: "an input slice of wrong
+/// length", "a reading .. not finite or outside its limits".
+pub fn raw_held(list: &[u8], length: Option<usize>) -> Held {
+    let broken = |place| !within(double(list, place), READING_LIMIT);
+    let wrong = list.len() % 8 != 0 || length.map_or(false, |length| list.len() / 8 != length);
+    Held::when(1, wrong).and(Held::when(3, (0..list.len() / 8).any(broken)))
 }
 
 /// Number 2: "index not below its count; flag, mask or objective outside its values".

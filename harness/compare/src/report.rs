@@ -3,11 +3,12 @@
 use crate::calls::{Args, Length, Op, OPS};
 use crate::damage::{Damage, Place};
 use crate::paper::{Block, Count, Lent, BLOCKS, SLICE_NAMES};
+use crate::program_marks::{self, ProgramMark, PROGRAM_MARKS};
 use crate::states;
 
 /// Each row of the coverage table is met at least this often.
 pub const FLOOR: u64 = 500;
-/// Each row about solution sheets is met at least this often.
+/// Each row about solution sheets and about the program is met at least this often.
 pub const SHEET_FLOOR: u64 = 1000;
 
 macro_rules! marks {
@@ -276,6 +277,8 @@ pub struct Coverage {
     sheets: Vec<Vec<u64>>,
     /// For each call, refusals for a broken word, by its block.
     blocks: Vec<[u64; BLOCKS]>,
+    /// For each call, what its programs were.
+    programs: Vec<Vec<u64>>,
     levels: [[u64; 3]; 7],
     damages: Vec<DamageTally>,
     /// How often each pair of damages was made.
@@ -303,6 +306,7 @@ impl Coverage {
             marks: [0; MARK_COUNT],
             sheets: vec![vec![0; SHEET_MARKS.len()]; OPS.len()],
             blocks: vec![[0; BLOCKS]; OPS.len()],
+            programs: vec![vec![0; PROGRAM_MARKS.len()]; OPS.len()],
             levels: [[0; 3]; 7],
             damages: vec![DamageTally::default(); damages],
             pairs: vec![0; damages * (damages - 1) / 2],
@@ -329,6 +333,10 @@ impl Coverage {
         self.blocks[op][block as usize] += 1;
     }
 
+    pub fn hit_program(&mut self, op: usize, mark: ProgramMark, met: bool) {
+        self.programs[op][mark as usize] += u64::from(met);
+    }
+
     pub fn hit_count(&mut self, count: Count, value: usize) {
         let levels = &mut self.levels[count as usize];
         levels[0] += u64::from(value == 0);
@@ -348,6 +356,11 @@ impl Coverage {
 
     pub fn hit_answer(&mut self, op: usize, number: u8) {
         self.answers[op][number as usize] += 1;
+    }
+
+    /// How often a call had its result.
+    pub fn accepted(&self, op: usize) -> u64 {
+        self.answers[op][0]
     }
 
     pub fn hit_over(&mut self, op: usize, answered: u8, held: u8) {
@@ -384,7 +397,19 @@ impl Coverage {
         }
         self.answer_rows(&mut rows);
         self.sheet_rows(&mut rows);
+        self.program_rows(&mut rows);
         rows
+    }
+
+    fn program_rows(&self, rows: &mut Vec<Row>) {
+        let programmed = || OPS.iter().enumerate().filter(|(_, op)| op.programmed());
+        for (mark, (title, name)) in PROGRAM_MARKS.iter().enumerate() {
+            for (place, op) in programmed().filter(|(_, op)| program_marks::matters(op, title)) {
+                let hits = self.programs[place][mark];
+                let title = format!("calls on the program: {}", title);
+                rows.push(row(&title, format!("{}: {}", op.name, name), hits, SHEET_FLOOR));
+            }
+        }
     }
 
     fn sheet_rows(&self, rows: &mut Vec<Row>) {
@@ -460,6 +485,28 @@ pub fn row(title: &str, name: String, hits: u64, floor: u64) -> Row {
     Row { title: title.to_string(), name, hits, paired: None, note: String::new(), floor }
 }
 
+/// A call's calls, those of them that went wrong, and the accepted networks on which it had its
+/// result at least once.
+#[derive(Clone, Copy, Default)]
+pub struct CallTally {
+    pub calls: u64,
+    pub mismatches: u64,
+    pub networks: u64,
+}
+
+/// A row for each call. Those on the program have their results on at least `networks` networks.
+pub fn call_rows(tallies: &[CallTally], networks: u64) -> Vec<Row> {
+    let of_call = |(op, tally): (&Op, &CallTally)| Row {
+        title: "calls: accepted networks with a result".to_string(),
+        name: op.name.to_string(),
+        hits: tally.networks,
+        paired: None,
+        note: format!("{} calls, {} mismatches", tally.calls, tally.mismatches),
+        floor: if op.programmed() { networks } else { 0 },
+    };
+    OPS.iter().zip(tallies).map(of_call).collect()
+}
+
 /// A call that did not do what the paper and the original Rust say.
 #[derive(Clone)]
 pub struct Mismatch {
@@ -491,8 +538,8 @@ impl Mismatch {
         if op.index.is_some() {
             println!("  index: {}", self.args.index);
         }
-        if op.power {
-            println!("  power bits: {:016x}", self.args.bits);
+        if op.raw {
+            println!("  raw reading's bits: {:016x}", self.args.bits);
         }
         for ((name, _), bytes) in op.lists.iter().zip(&self.args.lists) {
             println!("  {} ({} bytes): {}", name, bytes.len(), hex(bytes));

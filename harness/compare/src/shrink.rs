@@ -5,6 +5,7 @@ use std::time::{Duration, Instant};
 use crate::abi::Memory;
 use crate::calls::{check, Args, Lend, Length, Site, OPS};
 use crate::paper::{Block, Blocks, Count, Field, Lent, Parts, Wire};
+use crate::programs;
 use crate::random::Rng;
 use crate::report::Mismatch;
 
@@ -31,11 +32,18 @@ impl Shrinker<'_> {
     }
 
     /// Keeps a candidate if the call still goes wrong on it.
-    fn attempt(&mut self, lent: Lent, args: Args) -> bool {
+    fn attempt(&mut self, lent: Lent, mut args: Args) -> bool {
         if self.over() {
             return false;
         }
-        let site = Site::new(lent);
+        let (site, op) = (Site::new(lent), &OPS[self.best.op]);
+        if op.typed() && !site.whole() {
+            return false;
+        }
+        if op.programmed() {
+            let old = Site::new(self.best.lent.clone());
+            programs::refit(&mut args.lists, op.lists, &old, &site);
+        }
         self.memory.fill_network(&site.lent);
         match check(self.best.op, &site, &args, self.memory, &mut self.rng, None) {
             Some(mut mismatch) if mismatch.number == self.best.number => {

@@ -11,7 +11,9 @@ pub fn matters(op: &str, title: &str) -> bool {
         "buses" | "upper angle limits" | "lower angle limits" | "segments" => {
             op == "snap" || op == "kkt_triplets"
         }
-        "linear rows" | "upper row limits" | "lower row limits" => op != "snap",
+        "linear rows" | "upper row limits" | "lower row limits" => {
+            op != "snap" && op != "nodal_marginal_values"
+        }
         "lists" | "exempt words" => op == "kkt_triplets",
         _ => true,
     }

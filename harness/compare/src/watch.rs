@@ -135,7 +135,7 @@ extern "C" fn report(signal: i32) {
     say_number(CASE.load(Relaxed));
     say(b", index ");
     say_number(INDEX.load(Relaxed) as u64);
-    say(b", power bits ");
+    say(b", raw reading's bits ");
     for byte in BITS.load(Relaxed).to_be_bytes() {
         say_hex(byte);
     }

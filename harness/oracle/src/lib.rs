@@ -110,6 +110,12 @@ pub struct Oracle {
 #[derive(Clone)]
 pub struct Solved(DcOpfSolution);
 
+/// One program as the original holds it.
+pub struct Program(problem::OpfProgram);
+
+/// What a solver hands over, as the original holds it.
+pub struct Raw(solve::RawSolution);
+
 fn take<'a, T>(rest: &mut &'a [T], count: usize) -> &'a [T] {
     let (front, back) = rest.split_at(count);
     *rest = back;
@@ -291,10 +297,15 @@ impl Oracle {
         self.dc.susceptance_coo()
     }
 
-    // The program. `layout` and `read_dc_solution` are in access/problem.rs.
+    // The program. `layout`, `read_dc_solution` and `read_raw` are in access/problem.rs.
+
+    /// The original's program itself, so that taking it apart isn't timed.
+    pub fn program(&self) -> Program {
+        Program(problem::build_opf(&formulation::Dc::new(), &self.dc))
+    }
 
     pub fn assemble(&self) -> Assembly {
-        let program = problem::build_opf(&formulation::Dc::new(), &self.dc);
+        let Program(program) = self.program();
         let triplets = |matrix: &CscMatrix<f64>| -> Triplets {
             (0..matrix.values.len())
                 .map(|at| (matrix.rows[at], matrix.cols[at], matrix.values[at]))
@@ -331,6 +342,16 @@ impl Oracle {
     /// A sheet as the original holds it, so that reading it isn't timed.
     pub fn solved(&self, solution: &[f64]) -> Solved {
         Solved(self.solution(solution))
+    }
+
+    /// A solver's columns and its objective as the original holds them.
+    pub fn raw(&self, x: &[f64], z: &[f64], objective: f64) -> Raw {
+        Raw(solve::RawSolution {
+            x: x.to_vec(),
+            z: z.to_vec(),
+            objective,
+            iterations: Vec::new(),
+        })
     }
 
     pub fn kkt_of(&self, solved: &Solved) -> DcKkt<'_> {

@@ -16,17 +16,17 @@ cone-count-requires c κs = search needs
 returns-3 : tie.Need-returns-3
 returns-3 c = let s = c .before .before .before .before .before .before .before .before .before .before .before .before .before in cones-short (s .pre) (s .args .rooms) (c .before .before .cone-count .ensures) (c .if3 .taken)
 
-count-p-requires : tie.Need-count-p-requires
-count-p-requires c κs = search needs
+p-is-short-requires : tie.Need-p-is-short-requires
+p-is-short-requires c κs = search needs
 
 returns-4 : tie.Need-returns-4
-returns-4 c = let s = c .before .before .before .before .before .before .before .before .before .before .before .before .before .before .before .before in p-short (s .pre) (s .args .rooms) (c .before .before .count-p .ensures) (c .if4 .taken)
+returns-4 c = let s = c .before .before .before .before .before .before .before .before .before .before .before .before .before .before .before in p-short (s .pre) (s .args .rooms) (c .before .p-is-short .ensures) (c .if4 .taken)
 
-count-a-requires : tie.Need-count-a-requires
-count-a-requires c κs = search needs
+a-is-short-requires : tie.Need-a-is-short-requires
+a-is-short-requires c κs = search needs
 
 returns-5 : tie.Need-returns-5
-returns-5 c = let s = c .before .before .before .before .before .before .before .before .before .before .before .before .before .before .before .before .before .before in a-decides (s .pre) (s .args .rooms) (c .before .before .before .before .before .before .before .cone-count .ensures) (c .before .before .before .before .count-p .ensures) (c .before .count-a .ensures) (c .before .before .before .before .before .before .before .before .before .before .before .if1 .left) (c .before .before .before .before .before .before .before .before .if2 .left) (c .before .before .before .before .before .if3 .left) (c .before .before .if4 .left)
+returns-5 c = let s = c .before .before .before .before .before .before .before .before .before .before .before .before .before .before .before .before in a-decides (s .pre) (s .args .rooms) (c .before .before .before .before .before .cone-count .ensures) (c .before .before .p-is-short .ensures) (c .a-is-short .ensures) (c .before .before .before .before .before .before .before .before .before .if1 .left) (c .before .before .before .before .before .before .if2 .left) (c .before .before .before .if3 .left) (c .before .if4 .left)
 
 pub is-short-spec : {M : Type 1} → statement M
 is-short-spec =
@@ -36,7 +36,7 @@ is-short-spec =
     returns-2
     cone-count-requires
     returns-3
-    count-p-requires
+    p-is-short-requires
     returns-4
-    count-a-requires
+    a-is-short-requires
     returns-5)

@@ -1,7 +1,7 @@
 // A child of the original's problem/dc.rs: it sees that file's private items.
 
-use super::{read_dc_solution, LinearRowIndex, OpfLayout, RawSolution};
-use crate::{Layout, Oracle};
+use super::{read_dc_solution, LinearRowIndex, OpfLayout};
+use crate::{Layout, Oracle, Raw, Solved};
 
 impl Oracle {
     pub fn layout(&self) -> Layout {
@@ -31,12 +31,12 @@ impl Oracle {
 
     /// A solution sheet from a solver's primal and dual columns and its objective.
     pub fn read_dc_solution(&self, x: &[f64], z: &[f64], objective: f64) -> Vec<f64> {
-        let raw = RawSolution {
-            x: x.to_vec(),
-            z: z.to_vec(),
-            objective,
-            iterations: Vec::new(),
-        };
-        self.sheet(&read_dc_solution(&self.dc, &raw))
+        let Solved(solution) = self.read_raw(&self.raw(x, z, objective));
+        self.sheet(&solution)
+    }
+
+    /// The same between the original's own structures.
+    pub fn read_raw(&self, raw: &Raw) -> Solved {
+        Solved(read_dc_solution(&self.dc, &raw.0))
     }
 }

@@ -23,7 +23,7 @@ rows-few (Lower l) = omega arith
 rows-few (Both u l) = omega arith
 rows-few (Equal l) = omega arith
 
-block-size : (c : Counts) (p l : ℕ) (b : Block) → getD (sizes c p l) (rank b) 0 ≡ size c p l b
+pub block-size : (c : Counts) (p l : ℕ) (b : Block) → getD (sizes c p l) (rank b) 0 ≡ size c p l b
 block-size c p l Va = refl
 block-size c p l Pg = refl
 block-size c p l Flow = refl

@@ -1,2 +1,3 @@
 -- The laws that proofs cite, here and in the crates above. Assumes nothing.
 pub mod Blocks
+pub mod Starts

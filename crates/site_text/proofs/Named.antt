@@ -16,7 +16,7 @@ use Rattle.solution.specs.Sheet.{pieces}
 use Rattle.kkt_index.specs.declared.Block.{Block}
 use Rattle.kkt_index.specs.declared.KktIdx.{KktIdx}
 use Rattle.kkt_index.specs.Index.{linearRows, blockStart, startIn, Indexed}
-use Rattle.kkt_list.proofs.Places.{starts}
+use Rattle.kkt_index.proofs.Starts.{starts}
 use Rattle.change_table.specs.Table.{Pair, Cell, fieldOf, cellsOf, cellsAt, namedCells, among}
 use Rattle.job_book.specs.Run.{triplets}
 use Rattle.site_text.specs.Text.{tripletLine, tripletsIn}

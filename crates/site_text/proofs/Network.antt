@@ -14,7 +14,7 @@ use Rattle.solution.specs.Sheet.{pieces}
 use Rattle.solution_check.proofs.Own.{few-pieces}
 use Rattle.kkt_index.specs.declared.KktIdx.{KktIdx}
 use Rattle.kkt_index.specs.Index.{linearRows, startIn, Narrow, Indexed}
-use Rattle.kkt_list.proofs.Places.{narrow, few-rows}
+use Rattle.kkt_index.proofs.Starts.{narrow, few-rows}
 use Rattle.change_table.specs.Table.{fieldOf, cellsOf, cellsAt, namedCells}
 use Rattle.job_book.specs.Book.{networkOf}
 use Rattle.site_text.specs.Text.{wiringB, readingsB, givenB}

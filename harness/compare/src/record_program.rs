@@ -5,7 +5,8 @@
 //! term_coefficient, x, z and of the answers, and 0; then those six slices as they are lent, the
 //! objective's bits, and the answers. The answers are the triplets of A and of P as counts, P's
 //! rows, columns and values, A's, q, b, the number of cones and their sizes; then the solution
-//! sheet read from x, z and the objective, and its marginal values. A zero is written as +0.
+//! sheet read from x, z and the objective, and its marginal values, of which there are none where a
+//! word of the sheet is past 10^15. A zero is written as +0.
 
 use std::fs::File;
 use std::io::{BufWriter, Result, Write};
@@ -13,7 +14,8 @@ use std::io::{BufWriter, Result, Write};
 use crate::calls::{self, Length, Site};
 use crate::generate::{self, value, Sizes};
 use crate::paper::{
-    bytes_of_doubles, bytes_of_words, Field, Lent, Parts, Wire, ALLOW_SHED, HEAD, OBJECTIVE,
+    bytes_of_doubles, bytes_of_words, within, Field, Lent, Parts, Wire, ALLOW_SHED, HEAD,
+    OBJECTIVE, SHEET_LIMIT,
 };
 use crate::programs;
 use crate::random::Rng;
@@ -116,7 +118,10 @@ fn answers(site: &Site, x: &[f64], z: &[f64], objective: f64) -> Vec<u8> {
     put_words(&mut out, program.cones.iter().copied());
     let solution = site.oracle().read_dc_solution(x, z, objective);
     put_doubles(&mut out, &solution);
-    put_doubles(&mut out, &site.oracle().nodal_marginal_values(&solution));
+    // A sheet with a word past its limit is refused.
+    if solution.iter().all(|&word| within(word, SHEET_LIMIT)) {
+        put_doubles(&mut out, &site.oracle().nodal_marginal_values(&solution));
+    }
     out
 }
 

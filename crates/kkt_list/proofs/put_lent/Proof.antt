@@ -3,7 +3,8 @@ use native.Mathlib.Omega.{arith}
 use Rattle.kkt.specs.Slots.{slots, siteOf}
 use Rattle.kkt.specs.Slots.Rule.{firstPlace}
 use Rattle.kkt.specs.Matrix.{kktList}
-use Rattle.kkt_list.proofs.Places.{narrow, few-rows, by-starts}
+use Rattle.kkt_index.proofs.Starts.{narrow, few-rows}
+use Rattle.kkt_list.proofs.Places.{by-starts}
 use Rattle.kkt_list.proofs.put_lent.Statement.{statement}
 use Rattle.kkt_list.proofs.put_lent.Tie as tie
 

@@ -1,0 +1,1 @@
+// sens/mod.rs's `forward_adjoint` as definitions over any commutative ring: both directions give the same matrix.

@@ -1,0 +1,2 @@
+-- The definitions that the contracts cite: the columns of a parameter, one after the other. Assumes nothing.
+pub mod Sheet

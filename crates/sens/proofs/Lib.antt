@@ -1,0 +1,2 @@
+-- The laws that the calls' proofs cite. Assumes nothing.
+pub mod Returns

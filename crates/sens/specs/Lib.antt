@@ -1,0 +1,2 @@
+-- The definitions that the contracts cite, from document 01. Assumes nothing.
+pub mod Calls

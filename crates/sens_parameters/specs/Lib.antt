@@ -1,0 +1,2 @@
+-- The definitions that the contracts cite: `parameter_jacobian` as a call. Assumes nothing.
+pub mod Calls

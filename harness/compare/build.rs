@@ -3,8 +3,10 @@
 use std::env;
 use std::path::PathBuf;
 
-/// `libNAME.a` each; exports of the model, of the matrix, of site changes, of the program.
-const LIBRARIES: [&str; 4] = ["capi", "capi_sens", "capi_change", "capi_problem"];
+/// `libNAME.a` each; exports of the model, of the matrix, of site changes, of the program, of the
+/// parameters' columns.
+const LIBRARIES: [&str; 5] =
+    ["capi", "capi_sens", "capi_change", "capi_problem", "capi_parameters"];
 
 fn main() {
     println!("cargo:rerun-if-changed=build.rs");

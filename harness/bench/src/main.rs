@@ -7,6 +7,7 @@ mod change;
 #[cfg(feature = "mock")]
 #[path = "../../compare/src/mock.rs"]
 mod mock;
+mod parameters;
 mod program;
 
 use oracle::{Differentiable, Network, Oracle};
@@ -236,5 +237,8 @@ fn main() {
     }
     for (n, m, k) in [(20, 30, 8), (256, 512, 256)] {
         program::program(n, m, k);
+    }
+    for (n, m, k) in [(20, 30, 8), (256, 512, 256)] {
+        parameters::parameters(n, m, k);
     }
 }

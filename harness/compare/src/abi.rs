@@ -510,11 +510,16 @@ struct Slot {
 
 /// The end of `SLOT` bytes, behind which nothing may be touched.
 pub fn guarded_end() -> *mut u8 {
+    guarded_end_of(SLOT)
+}
+
+/// The same of this many bytes.
+pub fn guarded_end_of(size: usize) -> *mut u8 {
     #[cfg(target_os = "linux")]
-    let start = watch::guarded(SLOT, GUARD_PAGE);
+    let start = watch::guarded(size, GUARD_PAGE);
     #[cfg(not(target_os = "linux"))]
-    let start = Box::leak(vec![0u8; SLOT + GUARD_PAGE].into_boxed_slice()).as_mut_ptr();
-    unsafe { start.add(SLOT) }
+    let start = Box::leak(vec![0u8; size + GUARD_PAGE].into_boxed_slice()).as_mut_ptr();
+    unsafe { start.add(size) }
 }
 
 impl Slot {

@@ -841,7 +841,7 @@ fn expect(op: &Op, site: &Site, args: &Args) -> Expected {
 }
 
 /// The sign of a zero is set aside, and one NaN is as good as another.
-fn same(expected: f64, got: f64) -> bool {
+pub fn same(expected: f64, got: f64) -> bool {
     expected == got || (expected.is_nan() && got.is_nan())
 }
 

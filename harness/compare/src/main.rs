@@ -9,6 +9,7 @@ mod marks;
 #[cfg(feature = "mock")]
 mod mock;
 mod paper;
+mod parameters;
 mod program_marks;
 mod programs;
 mod random;
@@ -30,6 +31,7 @@ use calls::{check, Args, Lend, Op, Site, OPS};
 use damage::{Damage, Place};
 use marks::mark_network;
 use paper::{bytes_of_doubles, bytes_of_words, Count, Lent};
+use parameters::Parameters;
 use random::Rng;
 use report::{call_rows, print_rows, CallTally, Coverage, Mismatch, FLOOR, SHEET_FLOOR};
 use runs::Runs;
@@ -39,7 +41,8 @@ compare: runs the exports beside the original Rust on generated networks
 
   --cases N     at least N good and N damaged networks, and half as many good ones on which
                 only the calls with a solution sheet and those on the program run, near the
-                thresholds of snapping, and a sixth as many runs of site changes (200000)
+                thresholds of snapping, and a sixth as many runs of site changes (200000);
+                of a quarter of the networks columns of the parameters are asked
   --seconds N   stop after N seconds, which is a failure before --cases is reached (240)
   --seed S      another seed gives other networks (1)
   --quick       neither the time bound nor the coverage floors count as failures
@@ -124,6 +127,7 @@ struct Run {
     tallies: Vec<CallTally>,
     smallest: Option<Mismatch>,
     runs: Runs,
+    parameters: Parameters,
 }
 
 impl Run {
@@ -145,6 +149,7 @@ impl Run {
             tallies: vec![CallTally::default(); OPS.len()],
             smallest: None,
             runs: Runs::new(),
+            parameters: Parameters::new(),
         }
     }
 
@@ -153,7 +158,8 @@ impl Run {
     }
 
     fn mismatches(&self) -> u64 {
-        self.tallies.iter().map(|tally| tally.mismatches).sum::<u64>() + self.runs.mismatches
+        let calls: u64 = self.tallies.iter().map(|tally| tally.mismatches).sum();
+        calls + self.runs.mismatches + self.parameters.mismatches
     }
 
     fn one_good(&mut self, serial: u64) {
@@ -164,6 +170,7 @@ impl Run {
         let site = Site::new(lent);
         assert!(site.held.lowest() == 0, "case {}: a good network is accepted", case);
         self.visit(&site, case, &mut rng, |op| op.rounds);
+        self.columns(&site, case);
     }
 
     /// Two of three serial numbers break one rule, the third breaks two.
@@ -181,6 +188,7 @@ impl Run {
             assert!(number == damage.number(), "case {}: {} gives {}", case, damage.name(), number);
             self.cover.hit_alone(kind, place);
             self.visit(&site, case, &mut rng, |_| 1);
+            self.columns(&site, case);
         } else {
             // A step that shares no factor with the number of pairs meets them all.
             let pair = third.wrapping_mul(1_000_003) % self.pairs.len();
@@ -189,6 +197,7 @@ impl Run {
             let site = self.damage(serial, &mut rng, &[(first, places.0), (second, places.1)]);
             self.cover.hit_pair(pair, first, second);
             self.visit(&site, case, &mut rng, |_| 1);
+            self.columns(&site, case);
         }
     }
 
@@ -218,6 +227,13 @@ impl Run {
             }
             self.tallies[place].networks += u64::from(self.cover.accepted(place) > before);
         }
+        self.columns(&site, case);
+    }
+
+    /// Columns of the parameters, of a share of the networks.
+    fn columns(&mut self, site: &Site, case: u64) {
+        let origin = self.origin(case);
+        self.parameters.visit(site, self.seed, case, &origin);
     }
 
     /// A run of site changes.
@@ -309,6 +325,7 @@ impl Run {
                 let args = Args { lists, lends, ..Args::default() };
                 self.call(place, &site, &args, 0, &mut rng);
             }
+            self.parameters.fixed(&site, solution, self.seed);
             for (place, _) in OPS.iter().enumerate().filter(|(_, op)| op.sheets.len() == 9) {
                 for one in 0..programs::OUTPUTS {
                     for lends in [programs::one_short(one, 0), programs::one_short(one, 3)] {
@@ -358,7 +375,7 @@ fn compare(options: &Options) -> bool {
     let mut tally = Run::new(options.seed);
     let in_time = run(options, &mut tally);
     let time = start.elapsed();
-    let low = tally.cover.print(&tally.damages) + tally.runs.print();
+    let low = tally.cover.print(&tally.damages) + tally.runs.print() + tally.parameters.print();
     let low = low + print_rows(&call_rows(&tally.tallies, options.cases));
     if let Some(mismatch) = tally.smallest.take() {
         shrink::shrink(mismatch, &mut tally.memory, options.seed).print();
@@ -387,6 +404,14 @@ fn compare(options: &Options) -> bool {
         tally.damaged_sheets
     );
     println!("runs of changes: {}, {} changes", tally.runs.count(), tally.runs.calls());
+    let (accepted, damaged) = tally.parameters.networks();
+    println!(
+        "parameter columns: {} accepted and {} damaged networks, {} calls, {} mismatches",
+        accepted,
+        damaged,
+        tally.parameters.calls(),
+        tally.parameters.mismatches
+    );
     for (op, tally) in OPS.iter().zip(&tally.tallies).filter(|(op, _)| op.programmed()) {
         let CallTally { calls, mismatches, networks } = tally;
         println!(

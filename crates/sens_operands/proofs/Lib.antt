@@ -1,0 +1,2 @@
+-- The laws that the proofs of `operand_selector` cite. Assumes nothing.
+pub mod Returns

@@ -1,0 +1,10 @@
+-- `sens_operands::price_of` meets its contract. Assumes nothing.
+use borrow.Author.Needs.{needs}
+use Rattle.sens_operands.proofs.price_of.Statement.{statement}
+use Rattle.sens_operands.proofs.price_of.Tie as tie
+
+returns : tie.Need-returns
+returns c = rw (c .enum-told .given .1)
+
+pub price-of-spec : {M : Type 1} → statement M
+price-of-spec = tie.close (tie.spec (λ c. search needs) (λ c. search needs) returns (λ c. search needs))

@@ -1,2 +1,3 @@
 -- The laws that the proofs of a column cite. Assumes nothing.
 pub mod Touching
+pub mod Bench

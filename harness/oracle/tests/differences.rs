@@ -34,3 +34,18 @@ fn a_fixed_bus() {
     assert_eq!((value(2, 1), value(3, 3)), (Some(1.0), Some(1.0)));
     assert_eq!((value(3, 1), value(2, 2)), (None, None));
 }
+
+/// One generator and a linear row of it, with raw words within 10^12: the row's value is past 10^15.
+#[test]
+fn a_sheet_past_its_limit() {
+    let net = Network {
+        wiring: vec![1, 0, 1, 0, 0, 1, 1, 0, 1, 0, 0, 1, 0, 0, 1],
+        readings: vec![100.0, 0.0, 2.0, 1.0, 0.0, 0.0, 3.0, 1.0, 0.0, 0.0, 0.0, 0.0],
+        term_index: vec![0],
+        term_coefficient: vec![1e12],
+    };
+    let oracle = Oracle::new(&net);
+    let sheet = oracle.read_dc_solution(&[0.0, 1e4], &[0.0; 3], 0.0);
+    assert_eq!(sheet.len(), oracle.solution_len());
+    assert_eq!(sheet[sheet.len() - 2], 1e16);
+}

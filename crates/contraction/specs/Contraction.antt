@@ -100,6 +100,11 @@ pub record Run (rows : List ℕ) (weights : List Float) (from n dim : ℕ) : Typ
   pub in-weights : from + n ≤ length weights
   pub below : (t : ℕ) → t < n → getD rows (from + t) 0 < dim
 
+-- n entries stand for the first dim words of a parameter column: over every solved column they have the words' sum
+pub record Gathers (rows : List ℕ) (values : List Float) (n dim : ℕ) (parameter : List Float) : Type 0 where
+  pub run : Run rows values 0 n dim
+  pub sum : (solved : List Float) → termSum rows values solved 0 n ≡ gathered parameter solved dim
+
 -- a selector's entries are as many as its counts say, and name rows below dim
 pub record Entered (S : Selector) (dim : ℕ) : Type 0 where
   pub long : length (S .weights) ≡ length (S .rows)

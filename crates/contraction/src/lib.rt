@@ -2,12 +2,13 @@
 // of the solved columns.
 use interface::Mode;
 ghost use mathlib.Core.Path.{_≡_};
+ghost use mathlib.Core.Bool.{true};
 ghost use Prim.Native.Nat.{_+_, _*_, _≤_, _<_};
-ghost use lib.ListN.{length};
+ghost use lib.ListN.{length, set};
 ghost use lib.Seq.{sets};
 ghost use Rattle.float64.specs.Values.{nought};
-ghost use Rattle.sequence.specs.Lists.{made, front};
-ghost use Rattle.contraction.specs.Contraction.{selectorOf, selectionWord, selectionSheet, column, forwardWord, adjointWord, wordOf, contracted, Run, Entered, Sided};
+ghost use Rattle.sequence.specs.Lists.{each, made, turns, front};
+ghost use Rattle.contraction.specs.Contraction.{selectorOf, selectionWord, selectionSheet, column, forwardWord, adjointWord, wordOf, contracted, Run, Gathers, Entered, Sided};
 
 // Column c of a sheet whose columns have dim words.
 fn column(sheet: &[f64], dim: usize, c: usize) -> &[f64]
@@ -125,8 +126,8 @@ fn contract_row(
     }
 }
 
-// Every element's words, "element by element, columns within".
-pub fn contract(
+// Every element's words, element by element.
+fn contract_rows(
     mode: Mode,
     sign: f64,
     counts: &[u32],
@@ -166,6 +167,207 @@ pub fn contract(
         );
         from += n;
         at += columns;
+    }
+}
+
+// A parameter column's entries: how many are gathered, and whether they stand for the whole column.
+struct Gathering {
+    whole: bool,
+    count: usize,
+}
+
+// Word r of a parameter column is gathered where it is not zero.
+fn gather_word(parameter: &[f64], r: usize, rows: &mut [u32], values: &mut [f64], n: usize) -> usize
+    requires { ⌜ (r < length (now parameter)) × (r < 0xFFFF_FFFF) ⌝ }
+    requires { ⌜ (n < length (now rows)) × (n < length (now values)) ⌝ }
+    requires { ⌜ Gathers (now rows) (now values) n r (now parameter) ⌝ }
+    ensures { λ k. ⌜ Gathers (now (rows .exit)) (now (values .exit)) k (r + 1) (now (parameter .entry)) ⌝ }
+    ensures { λ k. ⌜ (length (now (rows .exit)) ≡ length (now (rows .entry))) × (length (now (values .exit)) ≡ length (now (values .entry))) × (k ≤ n + 1) ⌝ }
+{
+    let v = parameter[r];
+    if v != 0.0 {
+        rows[n] = r as u32;
+        values[n] = v;
+        return n + 1;
+    }
+    n
+}
+
+// The entries of a parameter column, one for each word that is not zero, as far as the slices have room.
+fn gather(dim: usize, parameter: &[f64], rows: &mut [u32], values: &mut [f64]) -> Gathering
+    requires { ⌜ (dim ≤ length (now parameter)) × (length (now rows) ≤ length (now values)) ⌝ }
+    ensures { λ g. ⌜ (g .whole ≡ true → Gathers (now (rows .exit)) (now (values .exit)) (g .count) dim (now (parameter .entry))) ⌝ }
+    ensures { λ g. ⌜ (length (now (rows .exit)) ≡ length (now (rows .entry))) × (length (now (values .exit)) ≡ length (now (values .entry))) ⌝ }
+{
+    // an entry names its row by a u32
+    if 0xFFFF_FFFF <= dim {
+        return Gathering {
+            whole: false,
+            count: 0,
+        };
+    }
+    let room = rows.len();
+    let mut n = 0;
+    for r in 0..dim {
+        if n == room {
+            return Gathering {
+                whole: false,
+                count: n,
+            };
+        }
+        n = gather_word(parameter, r, rows, values, n);
+    }
+    Gathering {
+        whole: true,
+        count: n,
+    }
+}
+
+// The adjoint word of a parameter column and a solved column, over the column's entries where they are all gathered.
+fn gathered_word(
+    g: Gathering,
+    rows: &[u32],
+    values: &[f64],
+    sign: f64,
+    dim: usize,
+    parameter: &[f64],
+    solved: &[f64],
+) -> f64
+    requires { ⌜ (g .whole ≡ true → Gathers (now rows) (now values) (g .count) dim (now parameter)) ⌝ }
+    requires { ⌜ (dim ≤ length (now parameter)) × (length (now solved) ≡ dim) ⌝ }
+    ensures { λ x. ⌜ x ≡ adjointWord sign dim (now (parameter .entry)) (now (solved .entry)) ⌝ }
+{
+    let n = g.count;
+    if g.whole {
+        forward_word(sign, rows, values, 0, n, solved)
+    } else {
+        adjoint_word(sign, dim, parameter, solved)
+    }
+}
+
+// Word c of each element, from parameter column c.
+fn contract_column(
+    g: Gathering,
+    rows: &[u32],
+    values: &[f64],
+    sign: f64,
+    dim: usize,
+    columns: usize,
+    elements: usize,
+    parameter: &[f64],
+    solved: &[f64],
+    c: usize,
+    out: &mut [f64],
+)
+    requires { ⌜ (g .whole ≡ true → Gathers (now rows) (now values) (g .count) dim (now parameter)) ⌝ }
+    requires { ⌜ (dim ≤ length (now parameter)) × (dim * elements ≤ length (now solved)) ⌝ }
+    requires { ⌜ (c < columns) × (elements * columns ≤ length (now out)) ⌝ }
+    ensures { λ _. ⌜ now (out .exit) ≡ turns (λ o l. set l (o * columns + c) (adjointWord sign dim (now (parameter .entry)) (column dim (now (solved .entry)) o))) (now (out .entry)) elements ⌝ }
+{
+    let mut left = elements;
+    while 0 < left {
+        let o = elements - left;
+        let at = o * columns;
+        let k = at + c;
+        out[k] = gathered_word(
+            g,
+            rows,
+            values,
+            sign,
+            dim,
+            parameter,
+            column(solved, dim, o),
+        );
+        left -= 1;
+    }
+}
+
+// A parameter column is gathered once, and its words serve every element.
+fn adjoint_column(
+    sign: f64,
+    dim: usize,
+    columns: usize,
+    elements: usize,
+    parameter: &[f64],
+    solved: &[f64],
+    c: usize,
+    out: &mut [f64],
+)
+    requires { ⌜ (dim * columns ≤ length (now parameter)) × (dim * elements ≤ length (now solved)) ⌝ }
+    requires { ⌜ (c < columns) × (elements * columns ≤ length (now out)) ⌝ }
+    ensures { λ _. ⌜ now (out .exit) ≡ turns (λ o l. set l (o * columns + c) (adjointWord sign dim (column dim (now (parameter .entry)) c) (column dim (now (solved .entry)) o))) (now (out .entry)) elements ⌝ }
+{
+    let mut rows = [0u32; 64];
+    let mut values = [0.0; 64];
+    let words = column(parameter, dim, c);
+    let g = gather(dim, words, &mut rows, &mut values);
+    contract_column(
+        g,
+        &rows,
+        &values,
+        sign,
+        dim,
+        columns,
+        elements,
+        words,
+        solved,
+        c,
+        out,
+    );
+}
+
+// Every element's words, parameter column by parameter column.
+fn contract_columns(
+    sign: f64,
+    dim: usize,
+    columns: usize,
+    elements: usize,
+    parameter: &[f64],
+    solved: &[f64],
+    out: &mut [f64],
+)
+    requires { ⌜ (dim * columns ≤ length (now parameter)) × (dim * elements ≤ length (now solved)) ⌝ }
+    requires { ⌜ elements * columns ≤ length (now out) ⌝ }
+    ensures { λ _. ⌜ now (out .exit) ≡ front (each elements (λ o. made (λ c. adjointWord sign dim (column dim (now (parameter .entry)) c) (column dim (now (solved .entry)) o)) columns)) (now (out .entry)) ⌝ }
+{
+    for c in 0..columns {
+        adjoint_column(sign, dim, columns, elements, parameter, solved, c, out);
+    }
+}
+
+// Every element's words, "element by element, columns within".
+pub fn contract(
+    mode: Mode,
+    sign: f64,
+    counts: &[u32],
+    rows: &[u32],
+    weights: &[f64],
+    dim: usize,
+    columns: usize,
+    parameter: &[f64],
+    solved: &[f64],
+    out: &mut [f64],
+)
+    requires { ⌜ Entered (selectorOf sign counts rows weights) dim ⌝ }
+    requires { ⌜ Sided mode dim columns (length (now counts)) (now parameter) (now solved) ⌝ }
+    requires { ⌜ length (now counts) * columns ≤ length (now out) ⌝ }
+    ensures { λ _. ⌜ now (out .exit) ≡ front (contracted mode (selectorOf sign (counts .entry) (rows .entry) (weights .entry)) dim columns (now (parameter .entry)) (now (solved .entry))) (now (out .entry)) ⌝ }
+{
+    if let Mode::Adjoint = mode {
+        contract_columns(sign, dim, columns, counts.len(), parameter, solved, out);
+    } else {
+        contract_rows(
+            mode,
+            sign,
+            counts,
+            rows,
+            weights,
+            dim,
+            columns,
+            parameter,
+            solved,
+            out,
+        );
     }
 }
 

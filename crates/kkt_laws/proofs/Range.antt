@@ -43,7 +43,7 @@ module _ (s : Site) where
   abbrev Inside : Place → Type 0
   Inside p = p .1 < getD (sizes (s .counts) (pieces (s .counts) (s .wiring)) (startOf s (s .counts .rows))) (rank (p .0)) 0
 
-  abbrev Placed : Slot → Type 0
+  abbrev pub Placed : Slot → Type 0
   Placed x = Inside (x .row) × Inside (x .col)
 
   module _ (h : Wired (s .counts) (s .wiring)) (k : Termed (s .counts) (s .wiring) (s .indexes) (s .coefficients)) where
@@ -110,7 +110,7 @@ module _ (s : Site) where
     block-in NuFlow i l = (h .froms i l, l) & (h .tos i l, l) & (l, l) & done
     block-in Eta i l = (h .references i l, l) & done
 
-    slots-in : All Placed (slots s)
+    pub slots-in : All Placed (slots s)
     unfolding slots
     slots-in = all-each (length emission) (λ b m. all-each _ (block-in (emissionAt b)))
 

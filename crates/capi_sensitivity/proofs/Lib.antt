@@ -1,0 +1,2 @@
+-- The laws that the proofs of the exports cite. Assumes nothing.
+pub mod Answers

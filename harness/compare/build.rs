@@ -4,9 +4,9 @@ use std::env;
 use std::path::PathBuf;
 
 /// `libNAME.a` each; exports of the model, of the matrix, of site changes, of the program, of the
-/// parameters' columns.
-const LIBRARIES: [&str; 5] =
-    ["capi", "capi_sens", "capi_change", "capi_problem", "capi_parameters"];
+/// parameters' columns, of selectors, contraction and unit scales.
+const LIBRARIES: [&str; 6] =
+    ["capi", "capi_sens", "capi_change", "capi_problem", "capi_parameters", "capi_sensitivity"];
 
 fn main() {
     println!("cargo:rerun-if-changed=build.rs");

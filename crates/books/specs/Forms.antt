@@ -1,8 +1,9 @@
 -- The books' formulas: over numbers, the network's readings, and the program's variables and multipliers, each at its place. In doubles each written operation is rounded once.
--- Main definitions: `Form`, `valueOf`. Assumes nothing.
+-- Main definitions: `Form`, `valueOf`; `Alike`. Assumes nothing.
 use Prim.Native.Nat.{ℕ}
+use mathlib.Core.Path.{_≡_}
 use mathlib.Core.Bool.{cond}
-use lib.Ieee.{Float, binary64, add, sub, mul, div, neg, lt}
+use lib.Ieee.{Float, binary64, add, sub, mul, div, neg, lt, eq}
 use Rattle.float64.specs.Values.{nought, one, maxZero}
 use Rattle.network.specs.declared.Field.{Field}
 use Rattle.kkt_index.specs.declared.Block.{Block}
@@ -41,3 +42,10 @@ none = num nought
 
 abbrev pub unit : Form
 unit = num one
+
+-- a double with the sign of a zero set aside
+abbrev pub plain : Float → Float
+plain x = cond (eq x nought) nought x
+
+abbrev pub Alike : Float → Float → Type 0
+Alike x y = plain x ≡ plain y

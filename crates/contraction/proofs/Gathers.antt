@@ -1,18 +1,19 @@
 -- A parameter column's entries, gathered word by word.
--- Main results: `none`, `skip` (a word that is zero), `more` (one that is not). Assumes nothing.
+-- Main results: `none`, `skip` (a word that is zero), `skips` (so many of them), `more` (a word that is not). Assumes nothing.
 use mathlib.Core.Path.{_≡_, refl, sym, _∙_, subst}
-use mathlib.Core.Bool.{true, false}
+use mathlib.Core.Bool.{Bool, true, false, not}
 use mathlib.Core.List.{List}
-use Prim.Native.Nat.{ℕ, _+_, _<_}
-use native.Mathlib.Nat.{not-suc-le-zero, zero-add}
+use Prim.Native.Nat.{ℕ, zero, suc, _+_, _<_}
+use native.Mathlib.Nat.{not-suc-le-zero, zero-add, add-zero}
+use native.Mathlib.Numerals.{add-one}
 use native.Mathlib.Omega.{arith}
 use lib.Dec.{T}
 use lib.ListN.{length, getD, set, length-set}
 use lib.Seq.{getD-set-same, getD-set-other}
 use lib.Ieee.{Float, nan, binary64, add, mul, ne}
 use Rattle.float64.specs.Values.{nought}
-use Rattle.sequence.specs.Lists.{turns}
-use Rattle.sequence.proofs.Lists.{turns-more, turns-same, stored-at}
+use Rattle.sequence.specs.Lists.{every, turns}
+use Rattle.sequence.proofs.Lists.{and-left, and-right, turns-more, turns-same, stored-at}
 use Rattle.model.specs.Quantities.{termSum}
 use Rattle.contraction.specs.Contraction.{gathered, Gathers}
 
@@ -36,6 +37,18 @@ skip g e =
       run = record { in-rows = g .run .in-rows; in-weights = g .run .in-weights; below = λ t h. omega (arith, g .run .below t h) };
       sum = λ solved. g .sum solved ∙ rw (turns-more, e);
     }
+
+not-false : (b : Bool) → not b ≡ true → b ≡ false
+not-false true e = sym e
+not-false false e = refl
+
+pub skips : {rows : List ℕ} {values : List Float} {n : ℕ} (r k : ℕ) {parameter : List Float} → Gathers rows values n r parameter
+    → every (λ i. not (ne (getD parameter (r + i) nan) nought)) k ≡ true → Gathers rows values n (r + k) parameter
+unfolding every
+skips r zero g e = rw (add-zero r) g
+skips {rows} {values} {n} r (suc k) {parameter} g e =
+    let p : r + suc k ≡ r + k + 1 = omega arith in
+    rw p (skip (skips r k g (and-left _ _ e)) (not-false _ (and-right (every (λ i. not (ne (getD parameter (r + i) nan) nought)) k) _ e)))
 
 -- entries behind the first n change nothing of their sum
 behind : (rows : List ℕ) (values solved : List Float) (n r : ℕ) (v : Float) → termSum (set rows n r) (set values n v) solved 0 n ≡ termSum rows values solved 0 n

@@ -1,13 +1,15 @@
 // sens/mod.rs, `forward_adjoint` on both sides of the outside solve: the selection sheet, and the contraction
 // of the solved columns.
 use interface::Mode;
+use sequence::both;
 ghost use mathlib.Core.Path.{_≡_};
-ghost use mathlib.Core.Bool.{true};
+ghost use mathlib.Core.Bool.{true, not};
 ghost use Prim.Native.Nat.{_+_, _*_, _≤_, _<_};
-ghost use lib.ListN.{length, set};
+ghost use lib.ListN.{length, getD, set};
 ghost use lib.Seq.{sets};
+ghost use lib.Ieee.{nan, ne};
 ghost use Rattle.float64.specs.Values.{nought};
-ghost use Rattle.sequence.specs.Lists.{each, made, turns, front};
+ghost use Rattle.sequence.specs.Lists.{every, each, made, turns, front};
 ghost use Rattle.contraction.specs.Contraction.{selectorOf, selectionWord, selectionSheet, column, forwardWord, adjointWord, wordOf, contracted, Run, Gathers, Entered, Sided};
 
 // Column c of a sheet whose columns have dim words.
@@ -176,6 +178,13 @@ struct Gathering {
     count: usize,
 }
 
+// Whether a word is a zero, of either sign.
+fn is_zero(v: f64) -> bool
+    ensures { λ b. ⌜ b ≡ not (ne v nought) ⌝ }
+{
+    if v != 0.0 { false } else { true }
+}
+
 // Word r of a parameter column is gathered where it is not zero.
 fn gather_word(parameter: &[f64], r: usize, rows: &mut [u32], values: &mut [f64], n: usize) -> usize
     requires { ⌜ (r < length (now parameter)) × (r < 0xFFFF_FFFF) ⌝ }
@@ -193,7 +202,77 @@ fn gather_word(parameter: &[f64], r: usize, rows: &mut [u32], values: &mut [f64]
     n
 }
 
-// The entries of a parameter column, one for each word that is not zero, as far as the slices have room.
+// Whether the eight words from r on are all zero.
+fn quiet(parameter: &[f64], r: usize) -> bool
+    requires { ⌜ r + 8 ≤ length (now parameter) ⌝ }
+    ensures { λ b. ⌜ b ≡ every (λ i. not (ne (getD (now (parameter .entry)) (r + i) nan) nought)) 8 ⌝ }
+{
+    let mut ok = true;
+    for i in 0..8 {
+        let k = r + i;
+        ok = both(ok, is_zero(parameter[k]));
+    }
+    ok
+}
+
+// The entries of the eight words from r on.
+fn gather_block(
+    parameter: &[f64],
+    r: usize,
+    rows: &mut [u32],
+    values: &mut [f64],
+    n: usize,
+) -> usize
+    requires { ⌜ (r + 8 ≤ length (now parameter)) × (r + 8 ≤ 0xFFFF_FFFF) ⌝ }
+    requires { ⌜ (n + 8 ≤ length (now rows)) × (n + 8 ≤ length (now values)) ⌝ }
+    requires { ⌜ Gathers (now rows) (now values) n r (now parameter) ⌝ }
+    ensures { λ k. ⌜ Gathers (now (rows .exit)) (now (values .exit)) k (r + 8) (now (parameter .entry)) ⌝ }
+    ensures { λ k. ⌜ (length (now (rows .exit)) ≡ length (now (rows .entry))) × (length (now (values .exit)) ≡ length (now (values .entry))) × (k ≤ n + 8) ⌝ }
+{
+    if quiet(parameter, r) {
+        return n;
+    }
+    let mut k = n;
+    for i in 0..8 {
+        k = gather_word(parameter, r + i, rows, values, k);
+    }
+    k
+}
+
+// The entries of the words from a place on, as far as the slices have room.
+fn gather_rest(
+    from: usize,
+    dim: usize,
+    parameter: &[f64],
+    rows: &mut [u32],
+    values: &mut [f64],
+    count: usize,
+) -> Gathering
+    requires { ⌜ (from ≤ dim) × (dim ≤ length (now parameter)) × (dim ≤ 0xFFFF_FFFF) ⌝ }
+    requires { ⌜ (count ≤ length (now rows)) × (length (now rows) ≤ length (now values)) ⌝ }
+    requires { ⌜ Gathers (now rows) (now values) count from (now parameter) ⌝ }
+    ensures { λ g. ⌜ (g .whole ≡ true → Gathers (now (rows .exit)) (now (values .exit)) (g .count) dim (now (parameter .entry))) ⌝ }
+    ensures { λ g. ⌜ (length (now (rows .exit)) ≡ length (now (rows .entry))) × (length (now (values .exit)) ≡ length (now (values .entry))) ⌝ }
+{
+    let room = rows.len();
+    let mut n = count;
+    for r in from..dim {
+        if n == room {
+            return Gathering {
+                whole: false,
+                count: n,
+            };
+        }
+        n = gather_word(parameter, r, rows, values, n);
+    }
+    Gathering {
+        whole: true,
+        count: n,
+    }
+}
+
+// The entries of a parameter column, one for each word that is not zero, as far as the slices have room: in blocks of
+// eight words, of which most are all zero.
 fn gather(dim: usize, parameter: &[f64], rows: &mut [u32], values: &mut [f64]) -> Gathering
     requires { ⌜ (dim ≤ length (now parameter)) × (length (now rows) ≤ length (now values)) ⌝ }
     ensures { λ g. ⌜ (g .whole ≡ true → Gathers (now (rows .exit)) (now (values .exit)) (g .count) dim (now (parameter .entry))) ⌝ }
@@ -207,20 +286,15 @@ fn gather(dim: usize, parameter: &[f64], rows: &mut [u32], values: &mut [f64]) -
         };
     }
     let room = rows.len();
+    let blocks = dim / 8;
     let mut n = 0;
-    for r in 0..dim {
-        if n == room {
-            return Gathering {
-                whole: false,
-                count: n,
-            };
+    for b in 0..blocks {
+        if room < n + 8 {
+            return gather_rest(8 * b, dim, parameter, rows, values, n);
         }
-        n = gather_word(parameter, r, rows, values, n);
+        n = gather_block(parameter, 8 * b, rows, values, n);
     }
-    Gathering {
-        whole: true,
-        count: n,
-    }
+    gather_rest(8 * blocks, dim, parameter, rows, values, n)
 }
 
 // The adjoint word of a parameter column and a solved column, over the column's entries where they are all gathered.
@@ -330,6 +404,10 @@ fn contract_columns(
     requires { ⌜ elements * columns ≤ length (now out) ⌝ }
     ensures { λ _. ⌜ now (out .exit) ≡ front (each elements (λ o. made (λ c. adjointWord sign dim (column dim (now (parameter .entry)) c) (column dim (now (solved .entry)) o)) columns)) (now (out .entry)) ⌝ }
 {
+    // where dim is 0 no sheet bounds the number of columns
+    if elements == 0 {
+        return;
+    }
     for c in 0..columns {
         adjoint_column(sign, dim, columns, elements, parameter, solved, c, out);
     }

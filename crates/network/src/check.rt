@@ -10,6 +10,7 @@ use float64::base_low;
 use float64::in_range;
 use float64::raw_limit;
 use float64::within;
+use sequence::both;
 ghost use mathlib.Core.Path.{_≡_};
 ghost use mathlib.Core.Bool.{true, false, _&&_};
 ghost use Prim.Native.Nat.{ℕ, _+_, _<_, _≤_};
@@ -273,17 +274,17 @@ pub fn is_raw(x: f64) -> bool
     within(x, raw_limit())
 }
 
-// Whether each word is finite and of magnitude at most a limit.
+// Whether each word is finite and of magnitude at most a limit. Every word is tested, so that the tests of several
+// words can be made at once.
 pub fn all_within(xs: &[f64], limit: f64) -> bool
     requires { ⌜ T (positive limit) ⌝ }
     ensures { λ b. ⌜ b ≡ allWithin limit (now (xs .entry)) ⌝ }
 {
+    let mut ok = true;
     for i in 0..xs.len() {
-        if !within(xs[i], limit) {
-            return false;
-        }
+        ok = both(ok, within(xs[i], limit));
     }
-    true
+    ok
 }
 
 // Whether every field's readings are within its limits: base_mva, which stands first, and then all the others.

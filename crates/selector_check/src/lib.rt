@@ -10,6 +10,7 @@ use network::check::network_number_with;
 use network::check::sizes_hold;
 use network::layout::counts;
 use network::layout::wide;
+use sequence::both;
 use solution::piece_count;
 ghost use mathlib.Core.Path.{_≡_};
 ghost use mathlib.Core.Bool.{true, _&&_};
@@ -43,12 +44,6 @@ pub fn is_product(a: usize, b: usize, n: usize) -> bool
         return false;
     }
     n == a * b
-}
-
-pub fn both(a: bool, b: bool) -> bool
-    ensures { λ r. ⌜ r ≡ a && b ⌝ }
-{
-    if a { b } else { false }
 }
 
 // The dimension of the network's KKT system.

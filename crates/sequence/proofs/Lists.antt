@@ -66,6 +66,11 @@ pub every-none : (test : ℕ → Bool) → every test 0 ≡ true
 unfolding every
 every-none test = refl
 
+-- one test more, whatever the others say
+pub every-turn : (test : ℕ → Bool) (i : ℕ) {a b r : Bool} → a ≡ every test i → b ≡ test i → r ≡ a && b → r ≡ every test (i + 1)
+unfolding every
+every-turn test i p q e = rw (e, p, q, add-one)
+
 pub every-more : (test : ℕ → Bool) (i : ℕ) → every test i ≡ true → test i ≡ true → every test (i + 1) ≡ true
 unfolding every
 every-more test i e h = rw (add-one, e, h)

@@ -1,5 +1,6 @@
 // Triplets into three lent sheets, answers by number, and chains of equal keys.
 ghost use mathlib.Core.Path.{_≡_};
+ghost use mathlib.Core.Bool.{_&&_};
 ghost use Prim.Native.Nat.{ℕ, _+_, _<_, _≤_, min};
 ghost use lib.ListN.{length, getD, set};
 ghost use Rattle.sequence.specs.Sheets.{emit, held, Puts, Room, room};
@@ -48,6 +49,13 @@ pub fn least(a: usize, b: usize) -> usize
     ensures { λ k. ⌜ k ≡ min a b ⌝ }
 {
     if a < b { a } else { b }
+}
+
+// Both of two tests, each of which has been made.
+pub fn both(a: bool, b: bool) -> bool
+    ensures { λ r. ⌜ r ≡ a && b ⌝ }
+{
+    if a { b } else { false }
 }
 
 // How many triplets the three sheets hold.

@@ -4,6 +4,7 @@
 //! original is handed its own structures, built beforehand, and tests nothing.
 
 mod change;
+mod contraction;
 #[cfg(feature = "mock")]
 #[path = "../../compare/src/mock.rs"]
 mod mock;
@@ -12,7 +13,7 @@ mod program;
 
 use oracle::{Differentiable, Network, Oracle};
 use std::hint::black_box;
-use std::time::Instant;
+use std::time::{Duration, Instant};
 
 extern "C" {
     #[rustfmt::skip]
@@ -95,12 +96,25 @@ const CALLS: usize = 40;
 
 /// Microseconds a call, by two ways in turn: the median of the batches of each.
 fn side_by_side(mut ours: impl FnMut(), mut theirs: impl FnMut()) -> (f64, f64) {
-    let batch = |call: &mut dyn FnMut()| {
-        let begun = Instant::now();
+    let ours = || {
+        ours();
+        Duration::ZERO
+    };
+    let theirs = || {
+        theirs();
+        Duration::ZERO
+    };
+    side_by_side_less(ours, theirs)
+}
+
+/// The same, less the time that each call says was spent on getting its inputs ready.
+fn side_by_side_less(mut ours: impl FnMut() -> Duration, mut theirs: impl FnMut() -> Duration) -> (f64, f64) {
+    let batch = |call: &mut dyn FnMut() -> Duration| {
+        let (begun, mut less) = (Instant::now(), Duration::ZERO);
         for _ in 0..CALLS {
-            call();
+            less += call();
         }
-        begun.elapsed().as_secs_f64() * 1e6 / CALLS as f64
+        (begun.elapsed() - less).as_secs_f64() * 1e6 / CALLS as f64
     };
     let (mut first, mut second) = (Vec::new(), Vec::new());
     for _ in 0..BATCHES {
@@ -240,5 +254,8 @@ fn main() {
     }
     for (n, m, k) in [(20, 30, 8), (256, 512, 256)] {
         parameters::parameters(n, m, k);
+    }
+    for (n, m, k) in [(20, 30, 8), (256, 512, 256)] {
+        contraction::contraction(n, m, k);
     }
 }

@@ -719,7 +719,7 @@ fn draw_index(rng: &mut Rng, length: usize) -> usize {
     }
 }
 
-fn draw_broken(rng: &mut Rng, limit: f64) -> f64 {
+pub fn draw_broken(rng: &mut Rng, limit: f64) -> f64 {
     let fault = rng.pick(&Fault::ALL);
     broken_double(rng, fault, limit)
 }

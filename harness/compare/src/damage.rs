@@ -537,7 +537,8 @@ pub fn broken_double(rng: &mut Rng, fault: Fault, limit: f64) -> f64 {
     }
 }
 
-fn broken_base(rng: &mut Rng, fault: Fault) -> f64 {
+/// A base outside its limits.
+pub fn broken_base(rng: &mut Rng, fault: Fault) -> f64 {
     match fault {
         Fault::NotANumber => not_a_number(rng),
         Fault::Infinite => rng.pick(&[f64::INFINITY, f64::NEG_INFINITY]),

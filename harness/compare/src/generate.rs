@@ -2,7 +2,7 @@
 
 use crate::paper::{
     tolerance, Count, Field, Parts, Wire, ALLOW_SHED, BASE_HIGH, BASE_LOW, HEAD, OBJECTIVE,
-    READING_LIMIT, SHEET_LIMIT,
+    PARAMETER_LIMIT, READING_LIMIT, SHEET_LIMIT,
 };
 use crate::random::Rng;
 
@@ -231,7 +231,12 @@ pub fn sheet_value(rng: &mut Rng) -> f64 {
     value_within(rng, SHEET_LIMIT, 48)
 }
 
-fn base(rng: &mut Rng) -> f64 {
+/// A word of a parameter sheet: 2^199 is the greatest power of two below 10^60.
+pub fn parameter_value(rng: &mut Rng) -> f64 {
+    value_within(rng, PARAMETER_LIMIT, 198)
+}
+
+pub fn base(rng: &mut Rng) -> f64 {
     match rng.below(10) {
         0 => BASE_LOW,
         1 => BASE_HIGH,

@@ -17,7 +17,9 @@ mod record;
 mod record_program;
 mod report;
 mod runs;
+mod sensitivity;
 mod shrink;
+mod slot;
 mod solutions;
 mod states;
 #[cfg(target_os = "linux")]
@@ -35,6 +37,7 @@ use parameters::Parameters;
 use random::Rng;
 use report::{call_rows, print_rows, CallTally, Coverage, Mismatch, FLOOR, SHEET_FLOOR};
 use runs::Runs;
+use sensitivity::Sensitivity;
 
 const HELP: &str = "\
 compare: runs the exports beside the original Rust on generated networks
@@ -42,7 +45,8 @@ compare: runs the exports beside the original Rust on generated networks
   --cases N     at least N good and N damaged networks, and half as many good ones on which
                 only the calls with a solution sheet and those on the program run, near the
                 thresholds of snapping, and a sixth as many runs of site changes (200000);
-                of a quarter of the networks columns of the parameters are asked
+                of a quarter of the networks columns of the parameters are asked, and on
+                nearly a fifth selectors, contractions and unit scales
   --seconds N   stop after N seconds, which is a failure before --cases is reached (240)
   --seed S      another seed gives other networks (1)
   --quick       neither the time bound nor the coverage floors count as failures
@@ -128,6 +132,7 @@ struct Run {
     smallest: Option<Mismatch>,
     runs: Runs,
     parameters: Parameters,
+    sensitivity: Sensitivity,
 }
 
 impl Run {
@@ -150,6 +155,7 @@ impl Run {
             smallest: None,
             runs: Runs::new(),
             parameters: Parameters::new(),
+            sensitivity: Sensitivity::new(),
         }
     }
 
@@ -159,7 +165,7 @@ impl Run {
 
     fn mismatches(&self) -> u64 {
         let calls: u64 = self.tallies.iter().map(|tally| tally.mismatches).sum();
-        calls + self.runs.mismatches + self.parameters.mismatches
+        calls + self.runs.mismatches + self.parameters.mismatches + self.sensitivity.mismatches
     }
 
     fn one_good(&mut self, serial: u64) {
@@ -170,7 +176,7 @@ impl Run {
         let site = Site::new(lent);
         assert!(site.held.lowest() == 0, "case {}: a good network is accepted", case);
         self.visit(&site, case, &mut rng, |op| op.rounds);
-        self.columns(&site, case);
+        self.derivatives(&site, case);
     }
 
     /// Two of three serial numbers break one rule, the third breaks two.
@@ -188,7 +194,7 @@ impl Run {
             assert!(number == damage.number(), "case {}: {} gives {}", case, damage.name(), number);
             self.cover.hit_alone(kind, place);
             self.visit(&site, case, &mut rng, |_| 1);
-            self.columns(&site, case);
+            self.derivatives(&site, case);
         } else {
             // A step that shares no factor with the number of pairs meets them all.
             let pair = third.wrapping_mul(1_000_003) % self.pairs.len();
@@ -197,7 +203,7 @@ impl Run {
             let site = self.damage(serial, &mut rng, &[(first, places.0), (second, places.1)]);
             self.cover.hit_pair(pair, first, second);
             self.visit(&site, case, &mut rng, |_| 1);
-            self.columns(&site, case);
+            self.derivatives(&site, case);
         }
     }
 
@@ -227,13 +233,15 @@ impl Run {
             }
             self.tallies[place].networks += u64::from(self.cover.accepted(place) > before);
         }
-        self.columns(&site, case);
+        self.derivatives(&site, case);
     }
 
-    /// Columns of the parameters, of a share of the networks.
-    fn columns(&mut self, site: &Site, case: u64) {
+    /// Columns of the parameters, and what is made of such columns, each on a share of the
+    /// networks.
+    fn derivatives(&mut self, site: &Site, case: u64) {
         let origin = self.origin(case);
         self.parameters.visit(site, self.seed, case, &origin);
+        self.sensitivity.visit(site, self.seed, case, &origin);
     }
 
     /// A run of site changes.
@@ -326,6 +334,7 @@ impl Run {
                 self.call(place, &site, &args, 0, &mut rng);
             }
             self.parameters.fixed(&site, solution, self.seed);
+            self.sensitivity.fixed(&site, solution, self.seed);
             for (place, _) in OPS.iter().enumerate().filter(|(_, op)| op.sheets.len() == 9) {
                 for one in 0..programs::OUTPUTS {
                     for lends in [programs::one_short(one, 0), programs::one_short(one, 3)] {
@@ -376,6 +385,7 @@ fn compare(options: &Options) -> bool {
     let in_time = run(options, &mut tally);
     let time = start.elapsed();
     let low = tally.cover.print(&tally.damages) + tally.runs.print() + tally.parameters.print();
+    let low = low + tally.sensitivity.print(options.cases);
     let low = low + print_rows(&call_rows(&tally.tallies, options.cases));
     if let Some(mismatch) = tally.smallest.take() {
         shrink::shrink(mismatch, &mut tally.memory, options.seed).print();
@@ -411,6 +421,15 @@ fn compare(options: &Options) -> bool {
         damaged,
         tally.parameters.calls(),
         tally.parameters.mismatches
+    );
+    let (accepted, damaged) = tally.sensitivity.networks();
+    let calls = tally.sensitivity.calls().map(|(name, calls)| format!("{} {}", name, calls));
+    println!(
+        "sensitivity: {} accepted and {} damaged networks, calls: {}, {} mismatches",
+        accepted,
+        damaged,
+        calls.join(", "),
+        tally.sensitivity.mismatches
     );
     for (op, tally) in OPS.iter().zip(&tally.tallies).filter(|(op, _)| op.programmed()) {
         let CallTally { calls, mismatches, networks } = tally;

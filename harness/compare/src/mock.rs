@@ -209,6 +209,8 @@ macro_rules! export {
 mod parameters;
 #[path = "mock_program.rs"]
 mod program;
+#[path = "mock_sensitivity.rs"]
+mod sensitivity;
 
 export!(capi_network_number() lent, site => site.map(|_| 0));
 

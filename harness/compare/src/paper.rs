@@ -339,10 +339,12 @@ impl Blocks {
     }
 }
 
-/// Greatest magnitude of network readings, coefficients and raw readings.
+/// Greatest magnitude of network readings, coefficients, selector weights and raw readings.
 pub const READING_LIMIT: f64 = 1e12;
-/// Greatest magnitude of sheet readings.
+/// Greatest magnitude of sheet readings and solved columns.
 pub const SHEET_LIMIT: f64 = 1e15;
+/// Greatest magnitude in a parameter sheet that is handed in.
+pub const PARAMETER_LIMIT: f64 = 1e60;
 pub const BASE_LOW: f64 = 0.001;
 pub const BASE_HIGH: f64 = 1_000_000.0;
 

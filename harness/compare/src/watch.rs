@@ -36,9 +36,18 @@ const ON_ALTERNATE_STACK: i32 = 0x0800_0000;
 const FAULTS: [i32; 5] = [4, 6, 7, 8, 11];
 const ALARM: i32 = 14;
 
-const SLOTS: usize = 6;
-const SLOT_NAMES: [&str; SLOTS] =
-    ["wiring", "readings", "term_index", "term_coefficient", "list 0", "list 1"];
+const SLOTS: usize = 9;
+const SLOT_NAMES: [&str; SLOTS] = [
+    "wiring",
+    "readings",
+    "term_index",
+    "term_coefficient",
+    "list 0",
+    "list 1",
+    "list 2",
+    "list 3",
+    "list 4",
+];
 
 static CASE: AtomicU64 = AtomicU64::new(0);
 static NAME: AtomicUsize = AtomicUsize::new(0);
@@ -75,7 +84,8 @@ pub fn note_call(
     NAME_LENGTH.store(name.len(), Relaxed);
     INDEX.store(index, Relaxed);
     BITS.store(bits, Relaxed);
-    for (place, (start, length)) in slots.enumerate() {
+    let none = std::iter::repeat((0, 0));
+    for (place, (start, length)) in slots.chain(none).take(SLOTS).enumerate() {
         STARTS[place].store(start, Relaxed);
         LENGTHS[place].store(length, Relaxed);
     }

@@ -484,20 +484,21 @@ pub fn served_unit_scale(operand: Operand, parameter: Parameter, base_mva: f64) 
     sens::served_unit_scale(operand, parameter, base_mva)
 }
 
-/// The original's contraction, element by element, columns within. `solve` is
-/// given the list (rows and columns exchanged when adjoint), the right side and
-/// its number of columns, and answers the solved columns. Mode `Auto` panics.
+/// The original's contraction, element by element, columns within. It takes the
+/// parameter sheet by value. `solve` is given the list (rows and columns exchanged
+/// when adjoint), the right side and its number of columns, and answers the solved
+/// columns. Mode `Auto` panics.
 pub fn forward_adjoint(
     dim: usize,
     list: &[(usize, usize, f64)],
-    parameter_sheet: &[f64],
+    parameter_sheet: Vec<f64>,
     map: &[Vec<(usize, f64)>],
     sign: f64,
     mode: Mode,
     columns: usize,
     solve: impl Fn(&[(usize, usize, f64)], &[f64], usize) -> Vec<f64>,
 ) -> Vec<Vec<f64>> {
-    let sheet = Mat::from_columns(dim, columns, parameter_sheet.to_vec());
+    let sheet = Mat::from_columns(dim, columns, parameter_sheet);
     sens::forward_adjoint(dim, list, sheet, map, sign, mode, |list, right| {
         let count = right.ncols();
         Ok(Mat::from_columns(

@@ -144,7 +144,7 @@ fn contraction() {
         oracle::forward_adjoint(
             dim,
             &list,
-            &sheet,
+            sheet.clone(),
             &selector.map,
             -1.0,
             mode,

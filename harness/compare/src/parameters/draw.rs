@@ -15,12 +15,12 @@ const FEW: usize = 8;
 const MOST_WORDS: usize = export::ROOM / 8 - 64;
 
 /// A sheet of so many words, exactly or somewhat longer.
-fn roomy(rng: &mut Rng, words: usize) -> usize {
+pub fn roomy(rng: &mut Rng, words: usize) -> usize {
     words + if rng.percent(40) { rng.between(1, 9) } else { 0 }
 }
 
 /// A sheet that is one word short, several, or empty.
-fn short(rng: &mut Rng, words: usize) -> usize {
+pub fn short(rng: &mut Rng, words: usize) -> usize {
     let missing = match rng.below(10) {
         0..=6 => 1,
         7..=8 => rng.between(2, 9),
@@ -62,7 +62,7 @@ fn shuffle(rng: &mut Rng, columns: &mut [u32]) {
 }
 
 /// Columns that the parameter serves: for a cost, those of generators without segments.
-fn smooth(site: &Site, parameter: u32, count: Count) -> Vec<u32> {
+pub fn smooth(site: &Site, parameter: u32, count: Count) -> Vec<u32> {
     let all = 0..site.shape().count(count);
     let cost = rules::is_cost(parameter);
     all.filter(|&at| !cost || !rules::piecewise(site, at)).map(|at| at as u32).collect()

@@ -1,11 +1,12 @@
 //! The export for parameter columns: its declaration, and a call on memory whose every byte is
 //! watched.
 
-use crate::abi::{guarded_end_of, GUARD, SLOT};
+use crate::abi::{GUARD, SLOT};
 use crate::calls::{same, Site};
 use crate::paper::{bytes_of_words, double, SLICE_NAMES};
 use crate::parameters::Ask;
 use crate::random::Rng;
+use crate::slot::Slot;
 
 #[cfg(target_os = "linux")]
 use crate::watch;
@@ -36,33 +37,6 @@ pub const NAME: &str = "parameter_jacobian";
 
 /// The most bytes of a list of columns and of a sheet.
 pub const ROOM: usize = 1 << 22;
-
-/// Bytes that end where the next page may not be touched.
-struct Slot {
-    end: *mut u8,
-    room: usize,
-    length: usize,
-}
-
-impl Slot {
-    fn new(room: usize) -> Slot {
-        Slot { end: guarded_end_of(room), room, length: 0 }
-    }
-
-    fn fill(&mut self, bytes: &[u8]) {
-        assert!(bytes.len() <= self.room, "a slice has its place in a slot");
-        self.length = bytes.len();
-        unsafe { std::ptr::copy_nonoverlapping(bytes.as_ptr(), self.start(), bytes.len()) };
-    }
-
-    fn start(&self) -> *mut u8 {
-        unsafe { self.end.sub(self.length) }
-    }
-
-    fn bytes(&self) -> &[u8] {
-        unsafe { std::slice::from_raw_parts(self.start(), self.length) }
-    }
-}
 
 const INPUTS: [&str; 6] =
     [SLICE_NAMES[0], SLICE_NAMES[1], SLICE_NAMES[2], SLICE_NAMES[3], "solution", "columns"];
@@ -113,7 +87,7 @@ impl Memory {
         self.fill(ask);
         #[cfg(target_os = "linux")]
         {
-            let slots = self.inputs.iter().map(|slot| (slot.start() as usize, slot.length));
+            let slots = self.inputs.iter().map(|slot| (slot.start() as usize, slot.length()));
             watch::note_call(NAME, ask.parameter as usize, ask.sheet as u64, slots);
         }
         let [wiring, readings, term_index, term_coefficient, solution, columns] = &self.inputs;
@@ -122,18 +96,18 @@ impl Memory {
         let answer = unsafe {
             linked::sens_parameter_jacobian(
                 wiring.start() as _,
-                wiring.length / 4,
+                wiring.length() / 4,
                 readings.start() as _,
-                readings.length / 8,
+                readings.length() / 8,
                 term_index.start() as _,
-                term_index.length / 4,
+                term_index.length() / 4,
                 term_coefficient.start() as _,
-                term_coefficient.length / 8,
+                term_coefficient.length() / 8,
                 solution.start() as _,
-                solution.length / 8,
+                solution.length() / 8,
                 ask.parameter,
                 columns.start() as _,
-                columns.length / 4,
+                columns.length() / 4,
                 sheet as _,
                 ask.sheet,
             )

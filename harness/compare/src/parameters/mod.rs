@@ -1,9 +1,9 @@
 //! Columns of the parameters, `sens_parameter_jacobian`: numbers by the paper's order, words by
 //! the original Rust.
 
-mod draw;
+pub mod draw;
 mod export;
-mod rules;
+pub mod rules;
 mod tally;
 
 use oracle::{DcKkt, Differentiable};

@@ -1,0 +1,3 @@
+-- Formulas over any commutative ring, and a formula's derivative. Assumes nothing.
+pub mod Exact
+pub mod Derivatives

@@ -1,0 +1,259 @@
+-- The words of b, row by row: each is its constraint's right side.
+-- Main results: one for each family of constraints. Assumes nothing.
+use mathlib.Core.Path.{_≡_, refl, sym, ap, _∙_, subst}
+use mathlib.Core.Bool.{Bool, true, false, cond}
+use mathlib.Core.List.{List}
+use Prim.Native.Nat.{ℕ, zero, suc, _+_, _<_}
+use native.Mathlib.Omega.{arith}
+use lib.ListN.{length, getD}
+use lib.Dec.{eqb}
+use lib.Ieee.{Float, nan, eq, neg}
+use Rattle.float64.specs.Values.{nought, addAt, subAt}
+use Rattle.sequence.specs.Lists.{turns}
+use Rattle.network.specs.declared.Counts.{Counts}
+use Rattle.network.specs.declared.Field.the-variants.{BaseMva, UpperMw, LowerMw}
+use Rattle.network.specs.declared.Part.the-variants.{GeneratorFlags, ThermalFlags, AngleFlags, BrFrom, BrTo, Masks}
+use Rattle.network.specs.Layout.{allowShed, wire, place, reading, segmentStart}
+use Rattle.model.specs.declared.RowLimits.{RowLimits}
+use Rattle.model.specs.declared.RowLimits.the-variants.{None, Upper, Lower, Both, Equal}
+use Rattle.model.specs.Rows.{bothOf, limitsOf, rowLimits}
+use Rattle.model.specs.Quantities.{flowOffset, phaseTurn, phase, networkAt, fixedAt}
+use Rattle.snapping.specs.Expr.{unit, lessUnit}
+use Rattle.sens_snap.proofs.Words.{each-long}
+use Rattle.opf_layout.specs.declared.OpfRow.{OpfRow}
+use Rattle.opf_layout.specs.declared.OpfRow.the-variants.{Balance, FlowRow, Reference, LineUb, LineLb, GenUb, GenLb, ShedUb, ShedLb, PhaseUb, PhaseLb, Segment, LinearEqual, LinearLimit}
+use Rattle.opf_layout.specs.Layout.{flagged, sheds, activeRank, equalities, inequalities, equalityRank, inequalityRank, activeOf, rows, rowRank, rowSize, rowSizes, rowStart}
+use Rattle.opf_layout.proofs.Ranks.{rank-below, equality-below, inequality-below}
+use Rattle.opf_assembly.specs.Assembly.{perUnit, equalSide, limitSides, rightSides, rowWords, bSheet}
+use Rattle.books.specs.Forms.{Form}
+use Rattle.books.specs.Forms.Form.{_⊕_, _⊖_}
+use Rattle.books.specs.Manual.{Site, balance, flowLaw, reference, flowFloor, flowCeiling, generatorFloor, generatorCeiling, shedFloor, shedCeiling, angleFloor, angleCeiling, segment, rowCeiling, rowFloor, rowLevel, busShiftTo, shiftFlow, upper, lower}
+use Rattle.books.specs.Matrix.{Doubles}
+use Rattle.books_program.specs.Rows.{site}
+use Rattle.books_program.specs.Program.{constant}
+use Rattle.books_program.proofs.Doubles.{one-by, less-by, div-neg}
+use Rattle.books_program.proofs.Runs.{map-at, run-at, block-at, one-at, one-long, rank-at, rank-long}
+
+-- ---- rows by their rank
+
+row-below : (a : OpfRow) → rowRank a < 14
+row-below Balance = omega arith
+row-below FlowRow = omega arith
+row-below Reference = omega arith
+row-below LineUb = omega arith
+row-below LineLb = omega arith
+row-below GenUb = omega arith
+row-below GenLb = omega arith
+row-below ShedUb = omega arith
+row-below ShedLb = omega arith
+row-below PhaseUb = omega arith
+row-below PhaseLb = omega arith
+row-below Segment = omega arith
+row-below LinearEqual = omega arith
+row-below LinearLimit = omega arith
+
+pub row-ranked : (a : OpfRow) → getD rows (rowRank a) Balance ≡ a
+row-ranked Balance = refl
+row-ranked FlowRow = refl
+row-ranked Reference = refl
+row-ranked LineUb = refl
+row-ranked LineLb = refl
+row-ranked GenUb = refl
+row-ranked GenLb = refl
+row-ranked ShedUb = refl
+row-ranked ShedLb = refl
+row-ranked PhaseUb = refl
+row-ranked PhaseLb = refl
+row-ranked Segment = refl
+row-ranked LinearEqual = refl
+row-ranked LinearLimit = refl
+
+-- ---- the limits of a linear row are its readings
+
+abbrev Limits : RowLimits → Float → Float → Type 0
+Limits None u l = Unit {0}
+Limits (Upper x) u l = x ≡ u
+Limits (Lower y) u l = y ≡ l
+Limits (Both x y) u l = (x ≡ u) × (y ≡ l)
+Limits (Equal y) u l = y ≡ l
+
+limits-of : (mask : ℕ) (u l : Float) → Limits (limitsOf mask u l) u l
+limits-of mask u l = go (eqb mask 1) (eqb mask 2) (eqb mask 3) (eq l u)
+  where
+    go : (a b d e : Bool) → Limits (cond a (Upper u) (cond b (Lower l) (cond d (bothOf e u l) None))) u l
+    go true b d e = refl
+    go false true d e = refl
+    go false false true true = refl
+    go false false true false = (refl, refl)
+    go false false false e = tt
+
+module _ (c : Counts) (w : List ℕ) (r : List Float) (ti : List ℕ) (tc : List Float) where
+  abbrev own : Site
+  own = site c w r ti tc
+
+  abbrev worth : Form → Float
+  worth x = constant c w r ti tc x
+
+  -- word i of block a
+  abbrev side : OpfRow → ℕ → Float
+  side a i = getD (bSheet c w r) (rowStart c (activeOf c w r) a + i) nan
+
+  equal-long : (k : RowLimits) → length (equalSide c r k) ≡ equalities k
+  equal-long None = refl
+  equal-long (Upper u) = refl
+  equal-long (Lower l) = refl
+  equal-long (Both u l) = refl
+  equal-long (Equal l) = refl
+
+  limit-long : (k : RowLimits) → length (limitSides c r k) ≡ inequalities k
+  limit-long None = refl
+  limit-long (Upper u) = refl
+  limit-long (Lower l) = refl
+  limit-long (Both u l) = refl
+  limit-long (Equal l) = refl
+
+  row-long : (a : OpfRow) → length (rowWords c w r a) ≡ rowSize c (activeOf c w r) a
+  unfolding activeOf equalityRank inequalityRank
+  row-long Balance = one-long _ (c .buses)
+  row-long FlowRow = one-long _ (c .branches)
+  row-long Reference = one-long _ (c .references)
+  row-long LineUb = rank-long (flagged c w ThermalFlags) _ (c .branches)
+  row-long LineLb = rank-long (flagged c w ThermalFlags) _ (c .branches)
+  row-long GenUb = rank-long (flagged c w GeneratorFlags) _ (c .generators)
+  row-long GenLb = rank-long (flagged c w GeneratorFlags) _ (c .generators)
+  row-long ShedUb = rank-long (sheds c w r) _ (c .buses)
+  row-long ShedLb = rank-long (sheds c w r) _ (c .buses)
+  row-long PhaseUb = rank-long (flagged c w AngleFlags) _ (c .branches)
+  row-long PhaseLb = rank-long (flagged c w AngleFlags) _ (c .branches)
+  row-long Segment = one-long _ (c .segments)
+  row-long LinearEqual = each-long (rightSides c w r LinearEqual) (λ q. equalities (rowLimits c w r q)) (c .rows) (λ q h. equal-long (rowLimits c w r q))
+  row-long LinearLimit = each-long (rightSides c w r LinearLimit) (λ q. inequalities (rowLimits c w r q)) (c .rows) (λ q h. limit-long (rowLimits c w r q))
+
+  row-word : (a : OpfRow) (i : ℕ) → i < rowSize c (activeOf c w r) a → side a i ≡ getD (rowWords c w r a) i nan
+  unfolding bSheet rowStart
+  row-word a i l =
+      block-at (λ k. rowWords c w r (getD rows k Balance)) (rowSizes c (activeOf c w r)) 14
+      (λ k h. row-long (getD rows k Balance) ∙ sym (map-at (rowSize c (activeOf c w r)) Balance rows k h))
+      (rowRank a) i nan (row-below a) (rw (map-at (rowSize c (activeOf c w r)) Balance rows (rowRank a) (row-below a), row-ranked a) l)
+      ∙ ap (λ (b : OpfRow). getD (rowWords c w r b) i nan) (row-ranked a)
+
+  -- ---- balance
+
+  shift-turn : (f t : Bool) (e : ℕ) (x : Float) (y : Form) → x ≡ worth y
+      → subAt t (flowOffset c r e) (addAt f (flowOffset c r e) x) ≡ worth (cond t (cond f (y ⊕ shiftFlow own e) y ⊖ shiftFlow own e) (cond f (y ⊕ shiftFlow own e) y))
+  unfolding flowOffset
+  shift-turn true true e x y h = rw h
+  shift-turn true false e x y h = rw h
+  shift-turn false true e x y h = rw h
+  shift-turn false false e x y h = h
+
+  shift-is : (i n : ℕ) → turns (phaseTurn c w r i) nought n ≡ worth (busShiftTo own i n)
+  unfolding turns phaseTurn busShiftTo
+  shift-is i zero = refl
+  shift-is i (suc e) =
+      shift-turn (eqb (wire c w BrFrom e) i) (eqb (wire c w BrTo e) i) e (turns (phaseTurn c w r i) nought e) (busShiftTo own i e) (shift-is i e)
+
+  pub balance-side : (i : ℕ) → i < c .buses → side Balance i ≡ worth (balance own i .right)
+  unfolding fixedAt networkAt phase
+  balance-side i l = row-word Balance i l ∙ one-at (fixedAt c w r) (c .buses) i nan l ∙ rw (shift-is i (c .branches))
+
+  pub flow-side : (e : ℕ) → e < c .branches → side FlowRow e ≡ worth (flowLaw own e .right)
+  unfolding flowOffset
+  flow-side e l = row-word FlowRow e l ∙ one-at (flowOffset c r) (c .branches) e nan l
+
+  pub reference-side : (k : ℕ) → k < c .references → side Reference k ≡ worth (reference own k .right)
+  reference-side k l = row-word Reference k l ∙ one-at _ (c .references) k nan l
+
+  -- ---- limits that are active
+
+  pub flow-ceiling-side : (e : ℕ) → e < c .branches → flagged c w ThermalFlags e ≡ true → side LineUb (activeRank (flagged c w ThermalFlags) e) ≡ worth (flowCeiling own e .right)
+  unfolding activeOf
+  flow-ceiling-side e l h = row-word LineUb _ (rank-below (flagged c w ThermalFlags) e (c .branches) h l) ∙ rank-at (flagged c w ThermalFlags) _ (c .branches) e nan l h
+
+  pub flow-floor-side : (e : ℕ) → e < c .branches → flagged c w ThermalFlags e ≡ true → side LineLb (activeRank (flagged c w ThermalFlags) e) ≡ worth (flowFloor own e .right)
+  unfolding activeOf
+  flow-floor-side e l h = row-word LineLb _ (rank-below (flagged c w ThermalFlags) e (c .branches) h l) ∙ rank-at (flagged c w ThermalFlags) _ (c .branches) e nan l h
+
+  pub generator-ceiling-side : (j : ℕ) → j < c .generators → flagged c w GeneratorFlags j ≡ true → side GenUb (activeRank (flagged c w GeneratorFlags) j) ≡ worth (generatorCeiling own j .right)
+  unfolding activeOf
+  generator-ceiling-side j l h = row-word GenUb _ (rank-below (flagged c w GeneratorFlags) j (c .generators) h l) ∙ rank-at (flagged c w GeneratorFlags) _ (c .generators) j nan l h
+
+  pub generator-floor-side : (j : ℕ) → j < c .generators → flagged c w GeneratorFlags j ≡ true → side GenLb (activeRank (flagged c w GeneratorFlags) j) ≡ worth (generatorFloor own j .right)
+  unfolding activeOf
+  generator-floor-side j l h = row-word GenLb _ (rank-below (flagged c w GeneratorFlags) j (c .generators) h l) ∙ rank-at (flagged c w GeneratorFlags) _ (c .generators) j nan l h
+
+  cap-is : (b : Bool) (x y : Form) → cond b (worth x) (worth y) ≡ worth (cond b x y)
+  cap-is true x y = refl
+  cap-is false x y = refl
+
+  pub shed-ceiling-side : (i : ℕ) → i < c .buses → sheds c w r i ≡ true → side ShedUb (activeRank (sheds c w r) i) ≡ worth (shedCeiling own i .right)
+  unfolding activeOf
+  shed-ceiling-side i l h =
+      row-word ShedUb _ (rank-below (sheds c w r) i (c .buses) h l) ∙ rank-at (sheds c w r) _ (c .buses) i nan l h ∙ cap-is (eqb (allowShed w) 1) _ _
+
+  pub shed-floor-side : (i : ℕ) → i < c .buses → sheds c w r i ≡ true → side ShedLb (activeRank (sheds c w r) i) ≡ worth (shedFloor own i .right)
+  unfolding activeOf
+  shed-floor-side i l h = row-word ShedLb _ (rank-below (sheds c w r) i (c .buses) h l) ∙ rank-at (sheds c w r) _ (c .buses) i nan l h
+
+  pub angle-ceiling-side : (e : ℕ) → e < c .branches → flagged c w AngleFlags e ≡ true → side PhaseUb (activeRank (flagged c w AngleFlags) e) ≡ worth (angleCeiling own e .right)
+  unfolding activeOf
+  angle-ceiling-side e l h = row-word PhaseUb _ (rank-below (flagged c w AngleFlags) e (c .branches) h l) ∙ rank-at (flagged c w AngleFlags) _ (c .branches) e nan l h
+
+  pub angle-floor-side : (e : ℕ) → e < c .branches → flagged c w AngleFlags e ≡ true → side PhaseLb (activeRank (flagged c w AngleFlags) e) ≡ worth (angleFloor own e .right)
+  unfolding activeOf
+  angle-floor-side e l h = row-word PhaseLb _ (rank-below (flagged c w AngleFlags) e (c .branches) h l) ∙ rank-at (flagged c w AngleFlags) _ (c .branches) e nan l h
+
+  -- ---- segments and linear rows
+
+  pub segment-side : (j t x : ℕ) → x < c .segments → x ≡ segmentStart c w j + t → side Segment x ≡ worth (segment own j t .right)
+  segment-side j t x l e = row-word Segment x l ∙ one-at _ (c .segments) x nan l ∙ rw e
+
+  module _ (d : Doubles r) (q : ℕ) (l : q < c .rows) where
+    limits-are : (k : RowLimits) → rowLimits c w r q ≡ k → Limits k (reading c r UpperMw q) (reading c r LowerMw q)
+    unfolding rowLimits
+    limits-are k e = subst (λ (k : RowLimits). Limits k (reading c r UpperMw q) (reading c r LowerMw q)) e (limits-of (wire c w Masks q) (reading c r UpperMw q) (reading c r LowerMw q))
+
+    upper-is : perUnit c r unit (reading c r UpperMw q) ≡ worth (upper own q)
+    unfolding reading
+    upper-is = rw (one-by (reading c r UpperMw q) (d (place c UpperMw q)))
+
+    lower-is : perUnit c r unit (reading c r LowerMw q) ≡ worth (lower own q)
+    unfolding reading
+    lower-is = rw (one-by (reading c r LowerMw q) (d (place c LowerMw q)))
+
+    less-is : perUnit c r lessUnit (reading c r LowerMw q) ≡ neg (worth (lower own q))
+    unfolding reading
+    less-is = rw (less-by (reading c r LowerMw q) (d (place c LowerMw q))) (div-neg (reading c r LowerMw q) (reading c r BaseMva 0))
+
+    equal-word : (k : RowLimits) → rowLimits c w r q ≡ k → 0 < equalities k → side LinearEqual (equalityRank c w r q) ≡ getD (equalSide c r k) 0 nan
+    unfolding activeOf equalityRank
+    equal-word k e m =
+        row-word LinearEqual _ (omega (arith, equality-below c w r q (c .rows) 0 l (rw e m)))
+        ∙ ap (λ (x : ℕ). getD (rowWords c w r LinearEqual) x nan) (omega arith)
+        ∙ run-at (rightSides c w r LinearEqual) (λ q. equalities (rowLimits c w r q)) (c .rows) (λ q h. equal-long (rowLimits c w r q)) q 0 nan l (rw e m)
+        ∙ rw e
+
+    limit-word : (k : RowLimits) → rowLimits c w r q ≡ k → (t : ℕ) → t < inequalities k → side LinearLimit (inequalityRank c w r q + t) ≡ getD (limitSides c r k) t nan
+    unfolding activeOf inequalityRank
+    limit-word k e t m =
+        row-word LinearLimit _ (inequality-below c w r q (c .rows) t l (rw e m))
+        ∙ run-at (rightSides c w r LinearLimit) (λ q. inequalities (rowLimits c w r q)) (c .rows) (λ q h. limit-long (rowLimits c w r q)) q t nan l (rw e m)
+        ∙ rw e
+
+    pub level-side : (y : Float) (x : ℕ) → rowLimits c w r q ≡ Equal y → side LinearEqual (equalityRank c w r q) ≡ worth (rowLevel own q x .right)
+    level-side y x e = equal-word (Equal y) e (omega arith) ∙ rw (limits-are (Equal y) e) lower-is
+
+    first-limit : (k : RowLimits) → rowLimits c w r q ≡ k → 0 < inequalities k → side LinearLimit (inequalityRank c w r q) ≡ getD (limitSides c r k) 0 nan
+    first-limit k e m = ap (λ (i : ℕ). side LinearLimit i) (omega arith) ∙ limit-word k e 0 m
+
+    pub upper-side : (y : Float) (x : ℕ) → rowLimits c w r q ≡ Upper y → side LinearLimit (inequalityRank c w r q) ≡ worth (rowCeiling own q x .right)
+    upper-side y x e = first-limit (Upper y) e (omega arith) ∙ rw (limits-are (Upper y) e) upper-is
+
+    pub lower-side : (y : Float) (x : ℕ) → rowLimits c w r q ≡ Lower y → side LinearLimit (inequalityRank c w r q) ≡ worth (rowFloor own q x .right)
+    lower-side y x e = first-limit (Lower y) e (omega arith) ∙ rw (limits-are (Lower y) e) less-is
+
+    pub both-upper-side : (y l : Float) (x : ℕ) → rowLimits c w r q ≡ Both y l → side LinearLimit (inequalityRank c w r q) ≡ worth (rowCeiling own q x .right)
+    both-upper-side y l x e = first-limit (Both y l) e (omega arith) ∙ rw (limits-are (Both y l) e .0) upper-is
+
+    pub both-lower-side : (y l : Float) (x : ℕ) → rowLimits c w r q ≡ Both y l → side LinearLimit (inequalityRank c w r q + 1) ≡ worth (rowFloor own q x .right)
+    both-lower-side y l x e = limit-word (Both y l) e 1 (omega arith) ∙ rw (limits-are (Both y l) e .1) less-is

@@ -1,5 +1,6 @@
 -- The theorems that the port equals the books. Assumes nothing.
 pub mod Zeros
+pub mod Doubles
 pub mod Cells
 pub mod Words
 pub mod Setting

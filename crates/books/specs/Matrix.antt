@@ -2,7 +2,7 @@
 -- Main definitions: `siteOf`, `unknown`, `cellValues`, `MatrixIs`; `Doubles`. Assumes nothing.
 use Prim.Native.Nat.{ℕ, _<_, _+_}
 use mathlib.Core.Path.{_≡_}
-use mathlib.Core.Bool.{Bool, true, false, not, _&&_}
+use mathlib.Core.Bool.{Bool, false, not, _&&_}
 use mathlib.Core.List.{List, [], _∷_, _++_}
 use lib.ListN.{getD}
 use lib.Dec.{T, eqb}
@@ -10,7 +10,6 @@ use lib.Ieee.{Float, nan, binary64, lt, eq, fits}
 use Rattle.float64.specs.Values.{nought, tolerance}
 use Rattle.sequence.specs.Lists.{some, each, when}
 use Rattle.network.specs.declared.Counts.{Counts}
-use Rattle.network.specs.declared.Field.{Field}
 use Rattle.network.specs.declared.Part.the-variants.{References}
 use Rattle.network.specs.Layout.{wire, reading}
 use Rattle.model.specs.Rows.{rowLimits}

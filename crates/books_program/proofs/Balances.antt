@@ -37,7 +37,7 @@ use Rattle.books.proofs.Zeros.{Alike, alike-add, alike-skip-add, alike-neg}
 use Rattle.books.proofs.Zeros.Alike.{same, zeros}
 use Rattle.books_program.specs.Rows.{site}
 use Rattle.books_program.specs.Program.{termValues, summed, together, Holds, hasColumn, columnIndex, variable}
-use Rattle.books_program.proofs.Doubles.{alike-back, alike-then, alike-is, plainly, neg-none, less-zero, none-zero, nought-fits, add-neg}
+use Rattle.books.proofs.Doubles.{alike-back, alike-then, alike-is, plainly, neg-none, less-zero, none-zero, nought-fits, add-neg}
 use Rattle.books_program.proofs.Entries.{only, Term, inRow, row-when, atColumn, column-append, column-each}
 use Rattle.books_program.proofs.Terms.{each-none, each-point, terms-append, terms-none, terms-point, written, worth, Agrees, agree-none, agree-one, agree-each}
 use Rattle.books_program.proofs.Lines.{itself, other, nothing, one-when, no-limits}

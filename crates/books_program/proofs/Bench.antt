@@ -5,7 +5,7 @@ use mathlib.Core.Path.{_≡_, refl}
 use mathlib.Core.Bool.{cond}
 use mathlib.Core.List.{List, [], _∷_}
 use lib.ListN.{length}
-use lib.Ieee.{Float, binary64, ofInt, ofBits, neg, div, lt, le, eq, add, sub, mul}
+use lib.Ieee.{Float, ofInt, ofBits, neg, div, lt, le, eq, add, sub, mul}
 use Rattle.float64.specs.Values.{whole, maxZero}
 use Rattle.sequence.specs.Lists.{before, each, when}
 use Rattle.network.specs.Layout.{countsOf, partStart, wire, fieldStart, place, reading, segmentStart, termStart}

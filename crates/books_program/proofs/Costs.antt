@@ -34,7 +34,7 @@ use Rattle.books.proofs.Zeros.{Alike, alike-skip-add}
 use Rattle.books.proofs.Zeros.Alike.{same}
 use Rattle.books_program.specs.Rows.{site}
 use Rattle.books_program.specs.Program.{termValues, summed, constant, hasColumn, columnIndex, columnAt, variable, HessianIs, CostIs}
-use Rattle.books_program.proofs.Doubles.{alike-back, alike-then, alike-is, plainly, nought-fits}
+use Rattle.books.proofs.Doubles.{alike-back, alike-then, alike-is, plainly, nought-fits}
 use Rattle.books_program.proofs.Runs.{map-at, block-at, one-at, one-long, rank-at, rank-long}
 use Rattle.books_program.proofs.Entries.{only, column-ranked, column-same}
 use Rattle.books_program.proofs.Terms.{terms-append, terms-none, terms-point, worth, place-same}

@@ -1,5 +1,4 @@
 -- The theorems that the assembled program is the manual's, and that the multipliers read back are the book's. Assumes nothing.
-pub mod Doubles
 pub mod Runs
 pub mod Multipliers
 pub mod Sides

@@ -25,7 +25,7 @@ use Rattle.opf_readback.specs.Readback.{readAt, readSheet, linearDual}
 use Rattle.books.specs.Matrix.{Doubles}
 use Rattle.books.proofs.Zeros.{Alike, alike-sub}
 use Rattle.books_program.specs.Multipliers.{read, signedRow, MultipliersAre}
-use Rattle.books_program.proofs.Doubles.{alike-back, alike-then, plainly, nought-fits, plus-none, less-none, none-plus, none-less}
+use Rattle.books.proofs.Doubles.{alike-back, alike-then, plainly, nought-fits, plus-none, less-none, none-plus, none-less}
 use Rattle.books_program.proofs.Runs.{block-at}
 
 rank-below : (e : Entry) → rank e < 18

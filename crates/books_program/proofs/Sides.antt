@@ -31,7 +31,7 @@ use Rattle.books.specs.Manual.{Site, balance, flowLaw, reference, flowFloor, fl
 use Rattle.books.specs.Matrix.{Doubles}
 use Rattle.books_program.specs.Rows.{site}
 use Rattle.books_program.specs.Program.{constant}
-use Rattle.books_program.proofs.Doubles.{one-by, less-by, div-neg}
+use Rattle.books.proofs.Doubles.{one-by, less-by, div-neg}
 use Rattle.books_program.proofs.Runs.{map-at, run-at, block-at, one-at, one-long, rank-at, rank-long}
 
 -- ---- rows by their rank

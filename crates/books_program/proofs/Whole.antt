@@ -40,7 +40,7 @@ use Rattle.books_program.specs.Rows.{Rowed, asRow, site, linearRowed, ro
 use Rattle.books_program.specs.Program.{variable, hasColumn, columnIndex, RowIs, ProgramIs}
 use Rattle.books_program.proofs.Constraints.{constraints-are}
 use Rattle.books_program.proofs.Complete.{rows-complete}
-use Rattle.books_program.proofs.Doubles.{one-by, less-by}
+use Rattle.books.proofs.Doubles.{one-by, less-by}
 use Rattle.books_program.proofs.Sides
 use Rattle.books_program.proofs.Entries.{Term, inRow, a-values}
 use Rattle.books_program.proofs.Range.{entries-inside}

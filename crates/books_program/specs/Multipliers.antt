@@ -2,7 +2,7 @@
 -- Main definitions: `kept`, `multiplier`, `MultipliersAre`. Assumes nothing.
 use Prim.Native.Nat.{ℕ, _+_, _<_}
 use mathlib.Core.Path.{_≡_}
-use mathlib.Core.Bool.{Bool, true, false, cond}
+use mathlib.Core.Bool.{true, false, cond}
 use mathlib.Core.List.{List}
 use lib.Ieee.{Float, binary64, neg, sub}
 use Rattle.float64.specs.Values.{nought}

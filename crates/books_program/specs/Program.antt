@@ -23,7 +23,7 @@ use Rattle.opf_layout.specs.declared.OpfRow.the-variants.{Balance}
 use Rattle.opf_layout.specs.Layout.{activeRank, sheds, activeOf, columnStart, columnRank, rowStart, rowRank, ncon}
 use Rattle.opf_assembly.specs.Assembly.{aTriplets, pTriplets, qSheet, bSheet, columnElements}
 use Rattle.books.specs.Forms.{Place, Form, valueOf, Alike}
-use Rattle.books.specs.Convex.{Gradient, Program, hessianEntries}
+use Rattle.books.specs.Convex.{Gradient, hessianEntries}
 use Rattle.books.specs.Manual.{program}
 use Rattle.books.specs.Matrix.{samePlace, cellValues}
 use Rattle.books_program.specs.Rows.{Rowed, site, rowed}

@@ -1,10 +1,9 @@
 -- B1, computed from the books' definitions: how many rows network B's residual has, and which is where.
 -- Main result: `bench-residual`. Assumes nothing.
-use Prim.Native.Nat.{ℕ}
 use mathlib.Core.Path.{_≡_, refl}
 use mathlib.Core.List.{List, []}
 use lib.ListN.{length, getD}
-use lib.Ieee.{binary64, ofInt, ofBits, neg, div, lt, le, eq}
+use lib.Ieee.{ofInt, ofBits, neg, div, lt, le, eq}
 use Rattle.float64.specs.Values.{whole, tolerance, maxZero}
 use Rattle.sequence.specs.Lists.{before, each}
 use Rattle.network.specs.Layout.{countsOf, partStart, wire, fieldStart, place, reading, segmentStart, termStart}
@@ -13,7 +12,6 @@ use Rattle.model.specs.Rows.{rowLimits}
 use Rattle.solution.specs.Sheet.{pieceRank}
 use Rattle.kkt_index.specs.declared.Block.the-variants.{Va, NuBal, Eta}
 use Rattle.books.specs.Forms.{none}
-use Rattle.books.specs.Manual.{Site}
 use Rattle.books.specs.Matrix.{siteOf}
 use Rattle.books.proofs.Bench.{wiring, readings, solution}
 use Rattle.books_residual.specs.Residual.{Row, residual}

@@ -24,11 +24,12 @@ use Rattle.books.specs.Forms.{Form, none, unit, Alike}
 use Rattle.books.specs.Forms.Form.{rd, var, minus, _⊕_, _⊖_, _⊗_}
 use Rattle.books.specs.Manual as manual
 use Rattle.books.specs.Manual.{from, to, angleFloor, angleCeiling}
+use Rattle.books.proofs.Doubles.{less-by}
 use Rattle.books_residual.specs.Residual.{sumTo, given, rowOf, drawn, pull, angleRow, balanceRow, flowLawRow}
 use Rattle.books_residual.specs.Rates.{rate}
 use Rattle.books_residual.specs.Rates.Rate.{still, by}
 use Rattle.books_residual.specs.Columns.{direction}
-use Rattle.books_residual.proofs.Doubles.{nought-plus, less-left}
+use Rattle.books_residual.proofs.Doubles.{nought-plus}
 use Rattle.books_residual.proofs.Places.{placed}
 use Rattle.books_residual.proofs.Still.{names-references}
 use Rattle.books_residual.proofs.Setting.{Given, R, S, site, worth, Claim}
@@ -107,7 +108,7 @@ module _ (z : Given) where
         ≡ sub binary64 (mul binary64 (neg (R z Sw e)) (figure (priceAcross (z .counts) (z .wiring) e))) (mul binary64 (R z Sw e) dual)
     pull-susceptance-worth =
         let p = figure (priceAcross (z .counts) (z .wiring) e) in
-        rw (prices-worth, less-left p (sub-fits binary64 _ _), mul-neg-right (R z Sw e) p, mul-neg-left (R z Sw e) p)
+        rw (prices-worth, less-by p (sub-fits binary64 _ _), mul-neg-right (R z Sw e) p, mul-neg-left (R z Sw e) p)
 
     gammas-worth : worth z (var (GammaUb, e) ⊖ var (GammaLb, e)) ≡ figure (gammaAcross (z .counts) (z .wiring) e)
     gammas-worth = rw (word z entries.GammaUb refl e l, word z entries.GammaLb refl e l)

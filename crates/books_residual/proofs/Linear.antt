@@ -29,10 +29,11 @@ use Rattle.books.specs.Forms.{Form, plain, Alike}
 use Rattle.books.specs.Manual.{rowStart, rowValue}
 use Rattle.books.specs.Matrix.{sidesOf, unknown}
 use Rattle.books.proofs.Words.{linear-word}
+use Rattle.books.proofs.Doubles.{nought-fits}
 use Rattle.books_residual.specs.Rates.{Rate, rate, formOf}
 use Rattle.books_residual.specs.Rates.Rate.{still}
 use Rattle.books_residual.specs.Columns.{direction}
-use Rattle.books_residual.proofs.Doubles.{nought-fits, one-right, less-right, over-itself}
+use Rattle.books_residual.proofs.Doubles.{one-right, less-right, over-itself}
 use Rattle.books_residual.proofs.Places.{placed}
 use Rattle.books_residual.proofs.Rows.{LinearAt}
 use Rattle.books_residual.proofs.Still.{names-value}

@@ -1,7 +1,6 @@
 -- What a parameter's column must hold by the books: in each row the derivative of the residual in the parameter, at the snapped solution.
 -- Main definitions: `direction`, `ColumnIs`. Assumes nothing.
 use Prim.Native.Nat.{ℕ}
-use mathlib.Core.Path.{_≡_}
 use mathlib.Core.Bool.{Bool, cond, _&&_}
 use mathlib.Core.List.{List}
 use lib.ListN.{getD}
@@ -20,7 +19,7 @@ use Rattle.books.specs.Forms.{Alike}
 use Rattle.books.specs.Forms.Form.{rd}
 use Rattle.books.specs.Matrix.{siteOf, value, flat}
 use Rattle.books_residual.specs.Residual.{Row, residual}
-use Rattle.books_residual.specs.Rates.{Rate, Direction, rate, rateValue}
+use Rattle.books_residual.specs.Rates.{Direction, rate, rateValue}
 use Rattle.books_residual.specs.Rates.Rate.{still, same, by}
 
 -- ---- what a parameter moves

@@ -11,7 +11,6 @@ use Rattle.network.specs.declared.Part.the-variants.{GenBus, References, FlowTe
 use Rattle.network.specs.declared.Field.the-variants.{Susceptance, Sw, FlowOffset, Cq, Cl, CShed, Demand, ShuntConductance, HvdcInjection, Slopes}
 use Rattle.network.specs.Layout.{wire, segmentsAt, segmentStart}
 use Rattle.solution.specs.Sheet.{pieceRank}
-use Rattle.kkt_index.specs.declared.Block.{Block}
 use Rattle.kkt_index.specs.declared.Block.the-variants.{Va, Pg, Flow, Psh, Cost, LamLb, LamUb, GammaLb, GammaUb, RhoLb, RhoUb, MuLb, MuUb, Segments, Linear, NuBal, NuFlow, Eta}
 use Rattle.kkt_index.specs.Index.{Shape}
 use Rattle.kkt_index.specs.Index.Shape.{free, upperOnly, lowerOnly, twoSided, equality}

@@ -1,4 +1,4 @@
--- Laws of binary64 that the program's rows need: products by 1 and −1 from the left, quotients and sums of negatives, sums with +0.
+-- Laws of binary64 that rows and columns need: products by 1 and −1 from the left, quotients and sums of negatives, sums with +0.
 -- Two doubles are alike where they are one value or two zeros. Main results: `one-by`, `less-by`, `div-neg`, `add-neg`, `plainly`, `alike-then`. Assumes nothing.
 use mathlib.Core.Path.{_≡_, refl, sym, ap, _∙_}
 use mathlib.Core.Bool.{Bool, true, false, not, cond, _&&_}

@@ -1,5 +1,5 @@
 -- The whole matrix: at every cell the port's triplets hold, in order, the values of the books' matrix that are not zero. One exception is stated: a bus that is listed twice as reference.
--- Main result: `matrix-is-the-books`. Assumes nothing.
+-- Main results: `matrix-is-the-books`, `accepted-matrix`. Assumes nothing.
 use mathlib.Core.Path.{_≡_, refl, sym, ap, _∙_, subst}
 use mathlib.Core.Bool.{Bool, true, false, not, _&&_}
 use mathlib.Core.List.{List, []}
@@ -8,7 +8,7 @@ use lib.Dec.{T, eqb}
 use lib.Ieee.{Float}
 use Rattle.sequence.specs.Lists.{when}
 use Rattle.network.specs.declared.Counts.{Counts}
-use Rattle.network.specs.Numbers.{Wired, Termed}
+use Rattle.network.specs.Numbers.{Network, Wired, Termed, Accepted}
 use Rattle.solution.specs.Sheet.{pieces}
 use Rattle.kkt_index.specs.declared.Block.{Block}
 use Rattle.kkt_index.specs.declared.Block.the-variants.{Va, Pg, Flow, Psh, Cost, LamLb, LamUb, GammaLb, GammaUb, RhoLb, RhoUb, MuLb, MuUb, Segments, Linear, NuBal, NuFlow, Eta}
@@ -165,3 +165,7 @@ matrix-is-the-books rule c w r ti tc s wired termed doubles eta a b ha hb =
     port-values z a b ha hb
     ∙ cells-same z a b ha hb
     ∙ ap (when (not (spared c w r ti tc s rule a b))) (sym (book-values z (matrixOf (program (bookSite z))) a b))
+
+-- of every accepted network
+pub accepted-matrix : (rule : Rule) (N : Network) (c : Counts) (s : List Float) → Accepted N c → Doubles s → MatrixIs c (N .wiring) (N .readings) (N .indexes) (N .coefficients) s rule
+accepted-matrix rule N c s h d = matrix-is-the-books rule c (N .wiring) (N .readings) (N .indexes) (N .coefficients) s (h .wired) (h .termed) d

@@ -1,5 +1,5 @@
--- The assembled program is the manual's: its rows and right sides, its Hessian and its costs.
--- Main result: `program-is-the-manuals`. Assumes nothing.
+-- The assembled program is the manual's: its constraints, their rows and right sides, every row, its Hessian and its costs.
+-- Main results: `program-is-the-manuals`, `accepted-program`. Assumes nothing.
 use mathlib.Core.Path.{_≡_, refl, ap}
 use mathlib.Core.Bool.{Bool, true, false}
 use mathlib.Core.List.{List, [], _∷_}
@@ -13,7 +13,7 @@ use Rattle.sequence.specs.Lists.{each}
 use Rattle.network.specs.declared.Counts.{Counts}
 use Rattle.network.specs.declared.Part.the-variants.{References, GeneratorFlags, ThermalFlags, AngleFlags, FlowTerms, GenerationTerms}
 use Rattle.network.specs.Layout.{wire, reading, segmentsAt, segmentStart, termStart}
-use Rattle.network.specs.Numbers.{Wired, Termed}
+use Rattle.network.specs.Numbers.{Network, Wired, Termed, Accepted}
 use Rattle.model.specs.declared.RowLimits.{RowLimits}
 use Rattle.model.specs.declared.RowLimits.the-variants.{None, Upper, Lower, Both, Equal}
 use Rattle.model.specs.Rows.{rowLimits}
@@ -226,3 +226,7 @@ program-is-the-manuals c w r ti tc h m d dc = record {
   hessian = hessian-is c w r ti tc;
   costs = costs-are c w r ti tc;
 }
+
+-- of every accepted network
+pub accepted-program : (N : Network) (c : Counts) → Accepted N c → Doubles (N .readings) → Doubles (N .coefficients) → ProgramIs c (N .wiring) (N .readings) (N .indexes) (N .coefficients)
+accepted-program N c h d e = program-is-the-manuals c (N .wiring) (N .readings) (N .indexes) (N .coefficients) (h .wired) (h .termed) d e

@@ -40,7 +40,7 @@ module _ {A : Type 0} (𝓡 : CommRing A) (W : World A) where
     abbrev pub incidence : ℕ → ℕ → A
     incidence e i = mark 𝓡 (eqb (from s e) i) + less (mark 𝓡 (eqb (to s e) i))
 
-    ends-ring : (p q : Bool) (m : A) → only 𝓡 p m + only 𝓡 q (less m) ≡ (mark 𝓡 p + less (mark 𝓡 q)) * m
+    pub ends-ring : (p q : Bool) (m : A) → only 𝓡 p m + only 𝓡 q (less m) ≡ (mark 𝓡 p + less (mark 𝓡 q)) * m
     ends-ring p q m = simp (only-mark, ring)
 
     pub ends-derivative : (v : Place → A) (x : ℕ → Form) (i e : ℕ) → derivative 𝓡 W v (ends s x i e) ≡ incidence e i * derivative 𝓡 W v (x e)

@@ -210,49 +210,53 @@ module _ {A : Type 0} (𝓡 : CommRing A) where
     column-none (equal turned) z = ap (λ (m : A). m * z) (neg-zero 𝓡) ∙ zero-mul 𝓡 z
     column-none vacant z = zero-mul 𝓡 z
 
-    -- a constraint's part in row a
-    abbrev Part : Place → Constraint → A
-    Part a c = only 𝓡 (samePlace (c .multiplier) a) (rowOf 𝓡 W v c) + columnOf 𝓡 W c a * v (c .multiplier)
+    module _ (F : Constraint → A) where
+      -- a constraint's part in row a: F in its multiplier's row, and its column
+      abbrev pub Part : Place → Constraint → A
+      Part a c = only 𝓡 (samePlace (c .multiplier) a) (F c) + columnOf 𝓡 W c a * v (c .multiplier)
 
-    at-variable : {cs : List Constraint} (a : Place) → All Sided cs → rank (a .0) < 5 → sum 𝓡 (Part a) cs ≡ sum 𝓡 (λ (c : Constraint). columnOf 𝓡 W c a * v (c .multiplier)) cs
-    unfolding sum only
-    at-variable a done l = refl
-    at-variable a (_&_ {x = c} h hs) l =
-        ap₂ _+_
-        (ap (λ (b : Bool). only 𝓡 (b && eqb (c .multiplier .1) (a .1)) (rowOf 𝓡 W v c) + columnOf 𝓡 W c a * v (c .multiplier))
-        (eqb-other (rank (c .multiplier .0)) (rank (a .0)) (λ e. omega (arith, h .0)))
-        ∙ zero-add 𝓡 _)
-        (at-variable a hs l)
+      pub at-variable : {cs : List Constraint} (a : Place) → All Sided cs → rank (a .0) < 5 → sum 𝓡 (Part a) cs ≡ sum 𝓡 (λ (c : Constraint). columnOf 𝓡 W c a * v (c .multiplier)) cs
+      unfolding sum only
+      at-variable a done l = refl
+      at-variable a (_&_ {x = c} h hs) l =
+          ap₂ _+_
+          (ap (λ (b : Bool). only 𝓡 (b && eqb (c .multiplier .1) (a .1)) (F c) + columnOf 𝓡 W c a * v (c .multiplier))
+          (eqb-other (rank (c .multiplier .0)) (rank (a .0)) (λ e. omega (arith, h .0)))
+          ∙ zero-add 𝓡 _)
+          (at-variable a hs l)
 
-    at-multiplier : {cs : List Constraint} (a : Place) → All Sided cs → 4 < rank (a .0)
-        → sum 𝓡 (Part a) cs ≡ sum 𝓡 (λ (c : Constraint). only 𝓡 (samePlace (c .multiplier) a) (rowOf 𝓡 W v c)) cs
-    unfolding sum
-    at-multiplier a done l = refl
-    at-multiplier a (_&_ {x = c} h hs) l =
-        ap₂ _+_
-        (ap (λ (m : A). only 𝓡 (samePlace (c .multiplier) a) (rowOf 𝓡 W v c) + m)
-        (ap (λ (m : A). columnPart 𝓡 W (c .kind) m * v (c .multiplier)) (coefficient-none a (h .1) l) ∙ column-none (c .kind) (v (c .multiplier)))
-        ∙ add-zero 𝓡 _)
-        (at-multiplier a hs l)
+      pub at-multiplier : {cs : List Constraint} (a : Place) → All Sided cs → 4 < rank (a .0)
+          → sum 𝓡 (Part a) cs ≡ sum 𝓡 (λ (c : Constraint). only 𝓡 (samePlace (c .multiplier) a) (F c)) cs
+      unfolding sum
+      at-multiplier a done l = refl
+      at-multiplier a (_&_ {x = c} h hs) l =
+          ap₂ _+_
+          (ap (λ (m : A). only 𝓡 (samePlace (c .multiplier) a) (F c) + m)
+          (ap (λ (m : A). columnPart 𝓡 W (c .kind) m * v (c .multiplier)) (coefficient-none a (h .1) l) ∙ column-none (c .kind) (v (c .multiplier)))
+          ∙ add-zero 𝓡 _)
+          (at-multiplier a hs l)
 
     module _ (h : Sound 𝓡 W) (s : Site) where
       -- the quadratic costs at row a
       abbrev pub Curved : Place → A
       Curved a = total 𝓡 (λ j. only 𝓡 (samePlace (Pg, j) a) (exactOf 𝓡 W (num (whole 2) ⊗ rd Cq j) * v (Pg, j))) (s .counts .generators)
 
-      whole-matrix : (a : Place) → applied 𝓡 W v (matrixOf (program s)) a ≡ Curved a + sum 𝓡 (Part a) (constraints s)
+      pub curved-none : (a : Place) → 4 < rank (a .0) → Curved a ≡ 𝟘
+      curved-none a l = of-block Pg (λ j. j) _ _ a ∙ only-off 𝓡 _ _ (eqb-other (rank Pg) (rank (a .0)) (λ e. omega arith))
+
+      whole-matrix : (a : Place) → applied 𝓡 W v (matrixOf (program s)) a ≡ Curved a + sum 𝓡 (Part (rowOf 𝓡 W v) a) (constraints s)
       unfolding program
       whole-matrix a =
           matrix-applied 𝓡 W h v (program s) a
-          ∙ ap (λ (m : A). m + sum 𝓡 (Part a) (constraints s)) (sum-singles 𝓡 _ (s .counts .generators) (λ j. ((Pg, j), (Pg, j), num (whole 2) ⊗ rd Cq j)))
+          ∙ ap (λ (m : A). m + sum 𝓡 (Part (rowOf 𝓡 W v) a) (constraints s)) (sum-singles 𝓡 _ (s .counts .generators) (λ j. ((Pg, j), (Pg, j), num (whole 2) ⊗ rd Cq j)))
 
       pub matrix-at-variable : (a : Place) → rank (a .0) < 5
           → applied 𝓡 W v (matrixOf (program s)) a ≡ Curved a + sum 𝓡 (λ (c : Constraint). columnOf 𝓡 W c a * v (c .multiplier)) (constraints s)
-      matrix-at-variable a l = whole-matrix a ∙ ap (λ (m : A). Curved a + m) (at-variable a (sided s) l)
+      matrix-at-variable a l = whole-matrix a ∙ ap (λ (m : A). Curved a + m) (at-variable (rowOf 𝓡 W v) a (sided s) l)
 
       pub matrix-at-multiplier : (a : Place) → 4 < rank (a .0)
           → applied 𝓡 W v (matrixOf (program s)) a ≡ sum 𝓡 (λ (c : Constraint). only 𝓡 (samePlace (c .multiplier) a) (rowOf 𝓡 W v c)) (constraints s)
       matrix-at-multiplier a l =
           whole-matrix a
-          ∙ ap₂ _+_ (of-block Pg (λ j. j) _ _ a ∙ only-off 𝓡 _ _ (eqb-other (rank Pg) (rank (a .0)) (λ e. omega arith))) (at-multiplier a (sided s) l)
+          ∙ ap₂ _+_ (curved-none a l) (at-multiplier (rowOf 𝓡 W v) a (sided s) l)
           ∙ zero-add 𝓡 _

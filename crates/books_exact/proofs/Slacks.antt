@@ -83,7 +83,7 @@ module _ {A : Type 0} (𝓡 : CommRing A) (W : World A) where
     centred-row p x m e = ap (λ (d : A). v p * exactOf 𝓡 W x + W .unknown p * d) e ∙ centred-ring (W .unknown p) (v p) (exactOf 𝓡 W x) m
 
     -- the slack's derivative is the gradient's, turned
-    abbrev Slack : Form → Gradient → Type 0
+    abbrev pub Slack : Form → Gradient → Type 0
     Slack x g = derivative v x ≡ less (slope 𝓡 W v g)
 
     -- a residual's row of one constraint, and the matrix's
@@ -92,28 +92,28 @@ module _ {A : Type 0} (𝓡 : CommRing A) (W : World A) where
 
     -- ---- limits
 
-    flow-floor-slack : (e : ℕ) → Slack (var (Flow, e) ⊕ rd Fmax e) (flowFloor s e .gradient)
+    pub flow-floor-slack : (e : ℕ) → Slack (var (Flow, e) ⊕ rd Fmax e) (flowFloor s e .gradient)
     unfolding along exactOf sum
     flow-floor-slack e = plus-ring (W .number one) (v (Flow, e)) (h .one-is)
 
     pub flow-floor : (e : ℕ) → Agrees (flowFloor s e) none
     flow-floor e = centred-row _ _ _ (flow-floor-slack e)
 
-    flow-ceiling-slack : (e : ℕ) → Slack (rd Fmax e ⊖ var (Flow, e)) (flowCeiling s e .gradient)
+    pub flow-ceiling-slack : (e : ℕ) → Slack (rd Fmax e ⊖ var (Flow, e)) (flowCeiling s e .gradient)
     unfolding along exactOf sum
     flow-ceiling-slack e = ceiling-ring (W .number one) (v (Flow, e)) (h .one-is)
 
     pub flow-ceiling : (e : ℕ) → Agrees (flowCeiling s e) none
     flow-ceiling e = centred-row _ _ _ (flow-ceiling-slack e)
 
-    generator-floor-slack : (j : ℕ) → Slack (var (Pg, j) ⊖ rd Gmin j) (generatorFloor s j .gradient)
+    pub generator-floor-slack : (j : ℕ) → Slack (var (Pg, j) ⊖ rd Gmin j) (generatorFloor s j .gradient)
     unfolding along exactOf sum
     generator-floor-slack j = minus-ring (W .number one) (v (Pg, j)) (h .one-is)
 
     pub generator-floor : (j : ℕ) → Agrees (generatorFloor s j) none
     generator-floor j = centred-row _ _ _ (generator-floor-slack j)
 
-    generator-ceiling-slack : (j : ℕ) → Slack (rd Gmax j ⊖ var (Pg, j)) (generatorCeiling s j .gradient)
+    pub generator-ceiling-slack : (j : ℕ) → Slack (rd Gmax j ⊖ var (Pg, j)) (generatorCeiling s j .gradient)
     unfolding along exactOf sum
     generator-ceiling-slack j = ceiling-ring (W .number one) (v (Pg, j)) (h .one-is)
 
@@ -121,14 +121,14 @@ module _ {A : Type 0} (𝓡 : CommRing A) (W : World A) where
     generator-ceiling j = centred-row _ _ _ (generator-ceiling-slack j)
 
     -- a branch that joins a bus to itself is no exception
-    angle-floor-slack : (e : ℕ) → Slack (rd Sw e ⊗ (angle s e ⊖ rd Angmin e)) (angleFloor s e .gradient)
+    pub angle-floor-slack : (e : ℕ) → Slack (rd Sw e ⊗ (angle s e ⊖ rd Angmin e)) (angleFloor s e .gradient)
     unfolding along exactOf sum
     angle-floor-slack e = angle-floor-ring (W .reading Sw e) _ (v (Va, from s e)) (v (Va, to s e))
 
     pub angle-floor : (e : ℕ) → Agrees (angleFloor s e) none
     angle-floor e = centred-row _ _ _ (angle-floor-slack e)
 
-    angle-ceiling-slack : (e : ℕ) → Slack (rd Sw e ⊗ (rd Angmax e ⊖ angle s e)) (angleCeiling s e .gradient)
+    pub angle-ceiling-slack : (e : ℕ) → Slack (rd Sw e ⊗ (rd Angmax e ⊖ angle s e)) (angleCeiling s e .gradient)
     unfolding along exactOf sum
     angle-ceiling-slack e = angle-ceiling-ring (W .reading Sw e) _ (v (Va, from s e)) (v (Va, to s e))
 
@@ -138,7 +138,7 @@ module _ {A : Type 0} (𝓡 : CommRing A) (W : World A) where
     -- ---- shed demand
 
     -- the cap is a reading
-    cap-still : (i : ℕ) → derivative v (cap s i) ≡ 𝟘
+    pub cap-still : (i : ℕ) → derivative v (cap s i) ≡ 𝟘
     unfolding along
     cap-still i = go (eqb (allowShed (s .wiring)) 1)
       where
@@ -150,11 +150,11 @@ module _ {A : Type 0} (𝓡 : CommRing A) (W : World A) where
         go true = same (W .above (exactOf 𝓡 W (rd Demand i)))
         go false = refl
 
-    shed-floor-slack : (i : ℕ) → Slack (var (Psh, i)) (shedFloor s i .gradient)
+    pub shed-floor-slack : (i : ℕ) → Slack (var (Psh, i)) (shedFloor s i .gradient)
     unfolding along exactOf sum
     shed-floor-slack i = floor-ring (W .number one) (v (Psh, i)) (h .one-is)
 
-    shed-ceiling-slack : (i : ℕ) → Slack (cap s i ⊖ var (Psh, i)) (shedCeiling s i .gradient)
+    pub shed-ceiling-slack : (i : ℕ) → Slack (cap s i ⊖ var (Psh, i)) (shedCeiling s i .gradient)
     unfolding along exactOf sum
     shed-ceiling-slack i = ap (λ (m : A). m + less (v (Psh, i))) (cap-still i) ∙ ceiling-ring (W .number one) (v (Psh, i)) (h .one-is)
 
@@ -177,7 +177,7 @@ module _ {A : Type 0} (𝓡 : CommRing A) (W : World A) where
 
     -- ---- segments
 
-    segment-slack : (j t : ℕ)
+    pub segment-slack : (j t : ℕ)
         → Slack (var (Cost, pieceRank (s .counts) (s .wiring) j) ⊖ rd Slopes (segmentStart (s .counts) (s .wiring) j plus t) ⊗ var (Pg, j) ⊖ rd Intercepts (segmentStart (s .counts) (s .wiring) j plus t)) (segment s j t .gradient)
     unfolding along exactOf sum
     segment-slack j t =
@@ -227,11 +227,11 @@ module _ {A : Type 0} (𝓡 : CommRing A) (W : World A) where
         (sum-singles 𝓡 _ _ _ ∙ total-same 𝓡 _ _ _ (λ t l. turned-ring _ _) ∙ sym (total-neg 𝓡 _ _))
         ∙ sym (neg-add 𝓡 _ _)
 
-    ceiling-slack : (q : ℕ) → Slack (upper s q ⊖ rowValue s q) (rowTerms s num q)
+    pub ceiling-slack : (q : ℕ) → Slack (upper s q ⊖ rowValue s q) (rowTerms s num q)
     unfolding along exactOf
     ceiling-slack q = below-ring _ _ _ ∙ ap less (row-value q ∙ sym (row-slope q))
 
-    floor-slack : (q : ℕ) → Slack (rowValue s q ⊖ lower s q) (rowTerms s (turnedNum s) q)
+    pub floor-slack : (q : ℕ) → Slack (rowValue s q ⊖ lower s q) (rowTerms s (turnedNum s) q)
     unfolding along exactOf
     floor-slack q = above-ring _ _ _ ∙ row-value q ∙ sym (neg-neg 𝓡 _) ∙ ap less (sym (turned-slope q))
 

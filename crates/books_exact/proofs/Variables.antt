@@ -351,7 +351,7 @@ module _ {A : Type 0} (𝓡 : CommRing A) (W : World A) (h : Sound 𝓡 W) (v : 
       (ap₂ _+_ (total-point 𝓡 (λ k. less (v (LamLb, k))) e _ l) (ap₂ _+_ (total-point 𝓡 (λ k. v (LamUb, k)) e _ l) refl)))
 
   -- the cost variable of a piecewise generator
-  pieces-apart : (i j t : ℕ) → (i ≡ j → ⊥) → t < segmentsAt (s .counts) (s .wiring) i → 0 < segmentsAt (s .counts) (s .wiring) j
+  pub pieces-apart : (i j t : ℕ) → (i ≡ j → ⊥) → t < segmentsAt (s .counts) (s .wiring) i → 0 < segmentsAt (s .counts) (s .wiring) j
       → eqb (pieceRank (s .counts) (s .wiring) i) (pieceRank (s .counts) (s .wiring) j) ≡ false
   unfolding pieceRank
   pieces-apart i j t d l m =

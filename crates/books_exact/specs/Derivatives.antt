@@ -1,11 +1,10 @@
 -- What the matrix and the parameters' columns must be in exact arithmetic: the derivatives of the residual in an unknown, and along a parameter's direction.
 -- Main definitions: `cellSum`, `toward`, `MatrixIsDerivative`, `RateIsDerivative`. Assumes nothing.
-use Prim.Native.Nat.{ℕ, _<_}
+use Prim.Native.Nat.{_<_}
 use mathlib.Core.Path.{_≡_}
 use mathlib.Core.Bool.{_&&_}
 use mathlib.Core.List.{List}
 use mathlib.Mathlib.Algebra.Ring.Defs.{CommRing}
-use Rattle.network.specs.declared.Field.{Field}
 use Rattle.solution.specs.Sheet.{pieces}
 use Rattle.kkt_index.specs.Index.{size}
 use Rattle.kkt_laws.specs.Laws.{All}

@@ -1,3 +1,4 @@
--- Formulas over any commutative ring, and a formula's derivative. Assumes nothing.
+-- Formulas over any commutative ring, their derivatives, and the residual of any program. Assumes nothing.
 pub mod Exact
 pub mod Derivatives
+pub mod Conditions

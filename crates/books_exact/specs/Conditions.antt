@@ -1,0 +1,48 @@
+-- Boyd and Vandenberghe's residual (11.53) at 1/t = 0, of any program, in exact arithmetic: r_dual = ∇f0 + Df' λ + A' ν at a variable, −λ f(x) at an inequality's multiplier, h(x) at an equality's.
+-- Main definitions: `bookResidual`, `ResidualIs`. Assumes nothing.
+use mathlib.Core.Path.{_≡_}
+use mathlib.Mathlib.Algebra.Ring.Defs.{CommRing}
+use Rattle.kkt_laws.specs.Laws.{All}
+use Rattle.exact.specs.Ring.{sum, only}
+use Rattle.books.specs.Forms.{Place, Form}
+use Rattle.books.specs.Convex.{Gradient, Kind, Constraint, Program, inColumn}
+use Rattle.books.specs.Convex.Kind.{atMost, equal, vacant}
+use Rattle.books.specs.Manual.{Site, program}
+use Rattle.books.specs.Matrix.{samePlace}
+use Rattle.books_residual.specs.Residual.{Row, residual}
+use Rattle.books_exact.specs.Exact.{World, exactOf}
+
+module _ {A : Type 0} (𝓡 : CommRing A) (W : World A) where
+  open CommRing 𝓡 using (add as _+_, mul as _*_, neg as less)
+
+  infixl 65 _+_
+  infixl 70 _*_
+  -- a gradient times x
+  abbrev pub times : Gradient → A
+  times g = sum 𝓡 (λ (x : Place × Form). exactOf 𝓡 W (x .1) * W .unknown (x .0)) g
+
+  -- f(x) or h(x)
+  abbrev pub level : Constraint → A
+  level c = times (c .gradient) + less (exactOf 𝓡 W (c .right))
+
+  -- what a constraint's multiplier adds to r_dual at a variable
+  abbrev pub pulled : Constraint → Place → A
+  pulled c p =
+      sum 𝓡 (λ (x : Place × Form). only 𝓡 (samePlace (x .0) p) (exactOf 𝓡 W (inColumn (c .kind) (x .1)) * W .unknown (c .multiplier))) (c .gradient)
+
+  -- its own row; a multiplier without its constraint is 0
+  abbrev pub own : Kind → Constraint → A
+  own (atMost s) c = less (W .unknown (c .multiplier) * level c)
+  own (equal v) c = level c
+  own vacant c = W .unknown (c .multiplier)
+
+  -- (11.53)
+  abbrev pub bookResidual : Program → Place → A
+  bookResidual P p =
+      sum 𝓡 (λ (h : Place × Place × Form). only 𝓡 (samePlace (h .0) p) (exactOf 𝓡 W (h .2) * W .unknown (h .1))) (P .hessian)
+      + sum 𝓡 (λ (q : Place × Form). only 𝓡 (samePlace (q .0) p) (exactOf 𝓡 W (q .1))) (P .costs)
+      + sum 𝓡 (λ (c : Constraint). pulled c p + only 𝓡 (samePlace (c .multiplier) p) (own (c .kind) c)) (P .constraints)
+
+  -- the rows that are differentiated are the program's residual
+  abbrev pub ResidualIs : Site → Type 0
+  ResidualIs s = All (λ (x : Row). exactOf 𝓡 W (x .1) ≡ bookResidual (program s) (x .0)) (residual s)

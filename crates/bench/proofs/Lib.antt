@@ -1,0 +1,2 @@
+-- Every case of the bench comes out as document 01 says. Assumes nothing.
+pub mod Bench

@@ -1,0 +1,200 @@
+-- Document 01's "Bench network", B1 to B11, as one array of cases: each a network and a sheet, what is asked of them, and what must come out. A double is asked and told by its bits, a test by 1 or 0.
+-- Main definitions: `Question`, `Case`, `asked`, `cases`, `agree`. Assumes nothing.
+use Prim.Native.Nat.{ℕ}
+use mathlib.Core.Bool.{Bool, true, false, cond, _&&_}
+use mathlib.Core.List.{List, [], _∷_, _++_, map}
+use lib.ListN.{length, take}
+use lib.Dec.{eqb}
+use lib.Ieee.{Float, binary64, neg, div, lt, toBits, ofBits}
+use Rattle.float64.specs.Values.{nought, whole, tolerance}
+use Rattle.sequence.specs.Sheets.{Triplet}
+use Rattle.network.specs.declared.Counts.{Counts}
+use Rattle.network.specs.Layout.{countsOf, reading}
+use Rattle.model.specs.Rows.{rowLimits, isEquality}
+use Rattle.model.specs.Quantities.{shedCap}
+use Rattle.solution.specs.Sheet.{pieces, solved}
+use Rattle.kkt_index.specs.declared.Block.the-variants.{NuBal, Eta}
+use Rattle.kkt_index.specs.Index.{linearRows, blockStart, dim}
+use Rattle.snapping.specs.Expr.{Expr, eval}
+use Rattle.snapping.specs.Snap.{shedOf, muLbOf, muUbOf, gammaUbOf}
+use Rattle.kkt.specs.Slots.Rule.{firstPlace}
+use Rattle.kkt.specs.Matrix.{kktList}
+use Rattle.opf_layout.specs.declared.OpfRow.the-variants.{LineUb, LineLb, PhaseUb, PhaseLb}
+use Rattle.opf_layout.specs.Layout.{sheds, activeOf, nvar, ncon, rowStart}
+use Rattle.opf_assembly.specs.Assembly.{aTriplets, pTriplets}
+use Rattle.parameter_column.specs.declared.Served.the-variants.{Demand}
+use Rattle.parameter_column.specs.Columns.{columnWords}
+use Rattle.site_text.specs.Text.{printed}
+
+pub data Question : Type 0 where
+  -- dim, and where nu_bal and eta start
+  blocks : Question
+  -- how many triplets the matrix has, and its first four: row, column, value
+  matrix : Question
+  -- the assembly's columns, rows, triplets of A and of P; the rows where thermal and angle limits start, upper and lower
+  program : Question
+  -- of a bus: whether it has a shed column, and whether the matrix fixes it
+  shedding : ℕ → Question
+  -- of a branch: gamma_ub, snapped
+  angle : ℕ → Question
+  -- of a bus: shed, mu_lb and mu_ub, snapped
+  shed : ℕ → Question
+  -- of a linear row: whether it is an equality
+  equality : ℕ → Question
+  -- of a bus: its demand's column
+  column : ℕ → Question
+  -- what `sitechange` prints for these bytes
+  change : List ℕ → Question
+
+pub record Case : Type 0 where
+  pub wiring : List ℕ
+  pub readings : List Float
+  pub sheet : List Float
+  pub question : Question
+  pub answer : List ℕ
+
+abbrev pub case : List ℕ → List Float → List Float → Question → List ℕ → Case
+case w r s q a = record { wiring = w; readings = r; sheet = s; question = q; answer = a }
+
+-- ---- what is asked
+
+abbrev pub bit : Bool → ℕ
+bit b = cond b 1 0
+
+abbrev pub bits : Float → ℕ
+bits x = toBits binary64 x
+
+unfoldable pub flat : List Triplet → List ℕ
+flat [] = []
+flat (t ∷ ts) = t .row ∷ t .col ∷ bits (t .value) ∷ flat ts
+
+module _ (c : Counts) (w : List ℕ) (r s : List Float) where
+  abbrev pub list : List Triplet
+  list = kktList firstPlace c w r [] [] s
+
+  abbrev pub figure : Expr → ℕ
+  figure x = bits (eval (reading c r) (solved c (pieces c w) s) x)
+
+  abbrev pub told : Question → List ℕ
+  told blocks =
+      dim c (pieces c w) (linearRows c w r)
+      ∷ blockStart c (pieces c w) (linearRows c w r) NuBal
+      ∷ blockStart c (pieces c w) (linearRows c w r) Eta
+      ∷ []
+  told matrix = length list ∷ flat (take 4 list)
+  told program =
+      nvar c (activeOf c w r)
+      ∷ ncon c (activeOf c w r)
+      ∷ length (aTriplets c w r [] [])
+      ∷ length (pTriplets c w r)
+      ∷ rowStart c (activeOf c w r) LineUb
+      ∷ rowStart c (activeOf c w r) LineLb
+      ∷ rowStart c (activeOf c w r) PhaseUb
+      ∷ rowStart c (activeOf c w r) PhaseLb
+      ∷ []
+  told (shedding i) = bit (sheds c w r i) ∷ bit (lt (shedCap c w r i) tolerance) ∷ []
+  told (angle e) = figure (gammaUbOf c w e) ∷ []
+  told (shed i) = figure (shedOf w i) ∷ figure (muLbOf w i) ∷ figure (muUbOf w i) ∷ []
+  told (equality q) = bit (isEquality (rowLimits c w r q)) ∷ []
+  told (column i) = map bits (columnWords c w [] [] (pieces c w) r s Demand i)
+  told (change b) = printed b
+
+abbrev pub asked : Case → List ℕ
+asked x = told (countsOf (x .wiring)) (x .wiring) (x .readings) (x .sheet) (x .question)
+
+-- ---- network B, with what the cases change of it
+
+-- "n 2, m 1, k 1, R 1 (bus 0), no S, q, T; allow_shed 0, objective 1; branch 0 to 1, generator at 0, all flags 1"
+abbrev wiringBy : ℕ → List ℕ
+wiringBy allow = 2 ∷ 1 ∷ 1 ∷ 1 ∷ 0 ∷ 0 ∷ 0 ∷ allow ∷ 1 ∷ 0 ∷ 1 ∷ 0 ∷ 0 ∷ 0 ∷ 1 ∷ 1 ∷ 1 ∷ []
+
+abbrev half : Float
+half = div binary64 (whole 1) (whole 2)
+
+-- "base 100, b -4, sw 1, shift and offset 0, fmax 4, angles -0.5 and 0.5, gmin 0, gmax 2, cq 1, cl and cc 0, c_shed 3 3, demand 0 1, shunt and HVDC 0"
+abbrev readingsBy : Float → Float → List Float
+readingsBy angmax demand =
+    whole 100 ∷ neg (whole 4) ∷ whole 1 ∷ whole 0 ∷ whole 0 ∷ whole 4 ∷ neg half ∷ angmax ∷ whole 0 ∷ whole 2 ∷ whole 1 ∷ whole 0 ∷ whole 0 ∷ whole 3 ∷ whole 3 ∷ whole 0 ∷ demand ∷ whole 0 ∷ whole 0 ∷ whole 0 ∷ whole 0 ∷ []
+
+-- "va 0 -0.25, pg 1, f 1, psh 0 0, nu_bal 2 2, mu_lb 1 1, objective 1, all else 0"
+abbrev sheetBy : Float → Float → Float → List Float
+sheetBy va psh gamma =
+    whole 0 ∷ va ∷ whole 1 ∷ whole 1 ∷ whole 0 ∷ psh ∷ whole 2 ∷ whole 2 ∷ whole 0 ∷ whole 0 ∷ whole 0 ∷ whole 0 ∷ whole 0 ∷ whole 0 ∷ whole 1 ∷ whole 1 ∷ gamma ∷ whole 0 ∷ whole 1 ∷ []
+
+abbrev quarter : Float
+quarter = div binary64 (whole 1) (whole 4)
+
+abbrev wiringB : List ℕ
+wiringB = wiringBy 0
+
+abbrev readingsB : List Float
+readingsB = readingsBy half (whole 1)
+
+abbrev sheetB : List Float
+sheetB = sheetBy (neg quarter) (whole 0) (whole 0)
+
+-- 10^-7, 1 divided by 10,000,000
+abbrev small : Float
+small = div binary64 (whole 1) (whole 10000000)
+
+abbrev four : ℕ
+four = 0x4010_0000_0000_0000
+
+abbrev lessFour : ℕ
+lessFour = 0xc010_0000_0000_0000
+
+abbrev one : ℕ
+one = 0x3ff0_0000_0000_0000
+
+abbrev lessOne : ℕ
+lessOne = 0xbff0_0000_0000_0000
+
+-- ---- the array
+
+unfoldable pub cases : List Case
+cases =
+    -- B1: dim 20; nu_bal starts at 16, eta at 19
+    case wiringB readingsB sheetB blocks (20 ∷ 16 ∷ 19 ∷ [])
+    -- B2: 45 triplets, the first four (18,0,-4), (16,0,-4), (17,0,4), (19,0,1)
+    ∷ case wiringB readingsB sheetB matrix (45 ∷ 18 ∷ 0 ∷ lessFour ∷ 16 ∷ 0 ∷ lessFour ∷ 17 ∷ 0 ∷ four ∷ 19 ∷ 0 ∷ one ∷ [])
+    -- B3: 4 columns, 10 rows, 17 triplets of A, 1 of P; the thermal rows are 4 and 5, the angle rows 8 and 9
+    ∷ case wiringB readingsB sheetB program (4 ∷ 10 ∷ 17 ∷ 1 ∷ 4 ∷ 5 ∷ 8 ∷ 9 ∷ [])
+    -- B4: shedding on, demand 10^-7: a column, yet fixed. At the tolerance itself: a column, not fixed. At 0: no column, fixed
+    ∷ case (wiringBy 1) (readingsBy half small) sheetB (shedding 1) (1 ∷ 1 ∷ [])
+    ∷ case (wiringBy 1) (readingsBy half tolerance) sheetB (shedding 1) (1 ∷ 0 ∷ [])
+    ∷ case (wiringBy 1) (readingsBy half (whole 0)) sheetB (shedding 1) (0 ∷ 1 ∷ [])
+    -- B5: angmax equal to the tolerance, both angles 0, gamma_ub 1: kept
+    ∷ case wiringB (readingsBy tolerance (whole 1)) (sheetBy (whole 0) (whole 0) (whole 1)) (angle 0) (one ∷ [])
+    -- B6: cap 1, shed equal to the tolerance: shed kept, both mu 0
+    ∷ case (wiringBy 1) readingsB (sheetBy (neg quarter) tolerance (whole 0)) (shed 1) (0x3eb0_c6f7_a0b5_ed8d ∷ 0 ∷ 0 ∷ [])
+    -- B7: limits -0 and +0: equality
+    ∷ case (0 ∷ 0 ∷ 0 ∷ 0 ∷ 0 ∷ 1 ∷ 0 ∷ 0 ∷ 1 ∷ 3 ∷ 0 ∷ 0 ∷ []) (whole 100 ∷ nought ∷ neg nought ∷ []) [] (equality 0) (1 ∷ [])
+    -- B8: demand column of bus 1: row 17 is -1, all others 0
+    ∷ case wiringB readingsB sheetB (column 1)
+    (0 ∷ 0 ∷ 0 ∷ 0 ∷ 0 ∷ 0 ∷ 0 ∷ 0 ∷ 0 ∷ 0 ∷ 0 ∷ 0 ∷ 0 ∷ 0 ∷ 0 ∷ 0 ∷ 0 ∷ lessOne ∷ 0 ∷ 0 ∷ [])
+    -- B9: all counts 0: dim 0, empty list
+    ∷ case (0 ∷ 0 ∷ 0 ∷ 0 ∷ 0 ∷ 0 ∷ 0 ∷ 0 ∷ 0 ∷ []) (whole 100 ∷ []) (whole 0 ∷ []) blocks (0 ∷ 0 ∷ 0 ∷ [])
+    ∷ case (0 ∷ 0 ∷ 0 ∷ 0 ∷ 0 ∷ 0 ∷ 0 ∷ 0 ∷ 0 ∷ []) (whole 100 ∷ []) (whole 0 ∷ []) matrix (0 ∷ [])
+    -- B10: change kind 10: number 4. Kind 2, index 1: number 5
+    ∷ case wiringB readingsB sheetB (change (0 ∷ 0 ∷ 0 ∷ 160 ∷ 0 ∷ 0 ∷ 0 ∷ 0 ∷ 0 ∷ 0 ∷ 24 ∷ 64 ∷ [])) (52 ∷ 32 ∷ 48 ∷ 10 ∷ [])
+    ∷ case wiringB readingsB sheetB (change (1 ∷ 0 ∷ 0 ∷ 32 ∷ 0 ∷ 0 ∷ 0 ∷ 0 ∷ 0 ∷ 0 ∷ 24 ∷ 64 ∷ [])) (53 ∷ 32 ∷ 48 ∷ 10 ∷ [])
+    -- B11: fmax to 6: "0 45", "6 6 401c000000000000", "7 7 4014000000000000"
+    ∷ case wiringB readingsB sheetB (change (0 ∷ 0 ∷ 0 ∷ 32 ∷ 0 ∷ 0 ∷ 0 ∷ 0 ∷ 0 ∷ 0 ∷ 24 ∷ 64 ∷ []))
+    (48 ∷ 32 ∷ 52 ∷ 53 ∷ 10
+    ∷ 54 ∷ 32 ∷ 54 ∷ 32 ∷ 52 ∷ 48 ∷ 49 ∷ 99 ∷ 48 ∷ 48 ∷ 48 ∷ 48 ∷ 48 ∷ 48 ∷ 48 ∷ 48 ∷ 48 ∷ 48 ∷ 48 ∷ 48 ∷ 10
+    ∷ 55 ∷ 32 ∷ 55 ∷ 32 ∷ 52 ∷ 48 ∷ 49 ∷ 52 ∷ 48 ∷ 48 ∷ 48 ∷ 48 ∷ 48 ∷ 48 ∷ 48 ∷ 48 ∷ 48 ∷ 48 ∷ 48 ∷ 48 ∷ 10
+    ∷ [])
+    ∷ []
+
+-- ---- the test
+
+unfoldable pub same : List ℕ → List ℕ → Bool
+same [] [] = true
+same [] (y ∷ ys) = false
+same (x ∷ xs) [] = false
+same (x ∷ xs) (y ∷ ys) = eqb x y && same xs ys
+
+-- every case comes out as it must
+unfoldable pub agree : List Case → Bool
+agree [] = true
+agree (x ∷ xs) = same (asked x) (x .answer) && agree xs

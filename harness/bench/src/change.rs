@@ -1,8 +1,10 @@
-//! An accepted site change by the bytes' export and by the typed one, beside the original with
-//! the reading set in place: its system made anew, with its list.
+//! An accepted site change by the typed export and by the bytes' one, and a run of changes, beside the original
+//! with the reading set in place: its system made anew, with its list.
 
-use crate::{network, side_by_side, solution};
-use oracle::{Differentiable, Network, Oracle, Solved, Triplets};
+use crate::case::{ByteLists, Case, WordLists};
+use crate::timing::{side_by_side, Times};
+use crate::{Form, Table};
+use oracle::{Differentiable, Oracle, Solved, Triplets};
 use std::hint::black_box;
 
 extern "C" {
@@ -20,7 +22,17 @@ extern "C" {
         rows: *mut u32, rowsl: usize, cols: *mut u32, colsl: usize, values: *mut f64, valuesl: usize,
         head: u32, low: u32, high: u32,
     ) -> u64;
+    #[rustfmt::skip]
+    fn site_run_changes(
+        w: *const u32, wl: usize, r: *mut f64, rl: usize, ti: *const u32, til: usize, tc: *const f64, tcl: usize,
+        s: *const f64, sl: usize,
+        rows: *mut u32, rowsl: usize, cols: *mut u32, colsl: usize, values: *mut f64, valuesl: usize,
+        changes: *const u32, changesl: usize, numbers: *mut u32, numbersl: usize, counted: *mut u32, countedl: usize,
+    ) -> u32;
 }
+
+/// Changes of a run, an even number of them: the next run then begins where the first did.
+const RUN: usize = 16;
 
 /// Kind 2, fmax, of the last branch: one value and another in turn, so that each call moves it.
 struct Turns {
@@ -29,119 +41,145 @@ struct Turns {
 }
 
 impl Turns {
+    fn of(case: &Case) -> Turns {
+        Turns { branch: case.size.m - 1, made: 0 }
+    }
+
     fn next(&mut self) -> f64 {
         self.made += 1;
         6.0 + (self.made % 2) as f64
     }
 
-    fn words(&mut self) -> (u32, u32, u32) {
+    fn words(&mut self) -> [u32; 3] {
         let bits = self.next().to_bits();
-        (2 << 28 | self.branch as u32, bits as u32, (bits >> 32) as u32)
+        [2 << 28 | self.branch as u32, bits as u32, (bits >> 32) as u32]
     }
 }
 
-/// A network with its sheet, and the original's list of it.
-struct Case {
-    net: Network,
-    sheet: Vec<f64>,
+/// The original's side: its network, which the changes are made to.
+struct Changed<'a> {
     original: Oracle,
-    solved: Solved,
-    branch: usize,
-    /// Room for the most triplets that such a network can have: the list is then written in one pass.
-    most: usize,
+    solved: &'a Solved,
+    turns: Turns,
+    /// Triplets of its list after any change.
     count: usize,
 }
 
-impl Case {
-    fn new(n: usize, m: usize, k: usize) -> Case {
-        let net = network(n, m, k);
-        let mut original = Oracle::new(&net);
-        let sheet = solution(original.solution_len());
-        let solved = original.solved(&sheet);
+impl Changed<'_> {
+    fn of(case: &Case) -> Changed<'_> {
+        let mut original = case.original.clone();
         let mut count = |fmax: f64| {
-            original.set_fmax(m - 1, fmax);
-            original.kkt_of(&solved).jacobian().len()
+            original.set_fmax(case.size.m - 1, fmax);
+            original.kkt_of(&case.solved).jacobian().len()
         };
-        assert_eq!(count(6.0), count(7.0));
+        assert_eq!(count(7.0), count(6.0));
         let count = count(6.0);
-        let most = 26 * m + 10 * n + 9 * k + 2 * net.wiring[3] as usize;
-        Case { net, sheet, original, solved, branch: m - 1, most, count }
+        Changed { original, solved: &case.solved, turns: Turns::of(case), count }
     }
 
-    /// Microseconds a change, by an export and by the original.
-    fn time(&mut self, mut export: impl FnMut((u32, u32, u32)) -> u64) -> (f64, f64) {
-        let due = 256 * self.count as u64;
-        let (mut ours, mut theirs) = (self.turns(), self.turns());
-        let (original, solved) = (&mut self.original, &self.solved);
-        side_by_side(
-            || assert_eq!(black_box(export(ours.words())), due),
-            || {
-                original.set_fmax(theirs.branch, theirs.next());
-                black_box(original.kkt_of(black_box(solved)).jacobian());
-            },
-        )
-    }
-
-    fn turns(&self) -> Turns {
-        Turns { branch: self.branch, made: 0 }
-    }
-
-    /// The original's list after as many changes as were timed.
-    fn list(&self) -> Triplets {
-        self.original.kkt_of(&self.solved).jacobian()
-    }
-
-    fn by_bytes(&mut self) -> (f64, f64) {
-        let bytes = |words: &[f64]| words.iter().flat_map(|x| x.to_le_bytes()).collect::<Vec<u8>>();
-        let w: Vec<u8> = self.net.wiring.iter().flat_map(|x| x.to_le_bytes()).collect();
-        let (mut r, s) = (bytes(&self.net.readings), bytes(&self.sheet));
-        let mut rows = vec![0u8; 4 * self.most];
-        let (mut cols, mut values) = (rows.clone(), vec![0u8; 8 * self.most]);
-        let times = self.time(|(head, low, high)| unsafe {
-            capi_change(
-                w.as_ptr(), w.len(), r.as_mut_ptr(), r.len(), w.as_ptr(), 0, s.as_ptr(), 0, s.as_ptr(),
-                s.len(), rows.as_mut_ptr(), rows.len(), cols.as_mut_ptr(), cols.len(),
-                values.as_mut_ptr(), values.len(), head, low, high,
-            )
-        });
-        for (place, triplet) in self.list().iter().enumerate() {
-            let word = |bytes: &[u8]| bytes[4 * place..4 * place + 4].to_vec();
-            assert_eq!(word(&rows), (triplet.0 as u32).to_le_bytes());
-            assert_eq!(word(&cols), (triplet.1 as u32).to_le_bytes());
-            assert_eq!(values[8 * place..8 * place + 8], triplet.2.to_le_bytes());
-        }
-        times
-    }
-
-    fn by_words(&mut self) -> (f64, f64) {
-        let (w, s) = (self.net.wiring.clone(), self.sheet.clone());
-        let mut r = self.net.readings.clone();
-        let mut rows = vec![0u32; self.most];
-        let (mut cols, mut values) = (rows.clone(), vec![0f64; self.most]);
-        let times = self.time(|(head, low, high)| unsafe {
-            site_change(
-                w.as_ptr(), w.len(), r.as_mut_ptr(), r.len(), w.as_ptr(), 0, s.as_ptr(), 0, s.as_ptr(),
-                s.len(), rows.as_mut_ptr(), rows.len(), cols.as_mut_ptr(), cols.len(),
-                values.as_mut_ptr(), values.len(), head, low, high,
-            )
-        });
-        for (place, triplet) in self.list().iter().enumerate() {
-            let got = (rows[place] as usize, cols[place] as usize, values[place]);
-            assert_eq!(got, *triplet);
-        }
-        times
+    /// One change, and the list of the network as it then stands.
+    fn next(&mut self) -> Triplets {
+        self.original.set_fmax(self.turns.branch, self.turns.next());
+        self.original.kkt_of(black_box(self.solved)).jacobian()
     }
 }
 
-/// One accepted change on a network of this size. Every triplet is compared once.
-pub fn change(n: usize, m: usize, k: usize) {
-    let mut case = Case::new(n, m, k);
-    let (by_bytes, by_words) = (case.by_bytes(), case.by_words());
-    for (way, (ours, theirs)) in [("bytes", by_bytes), ("words", by_words)] {
-        println!(
-            "n {n} m {m} k {k}: change by {way} {} triplets, {ours:.1} us, the Rust {theirs:.1} us, ratio {:.2}",
-            case.count,
-            ours / theirs
-        );
+fn by_bytes(case: &Case) -> Times {
+    let (net, s) = (&case.bytes, &case.sheet_bytes);
+    let (mut readings, mut out) = (net.readings.clone(), ByteLists::of_bytes(case.most_triplets()));
+    let (mut turns, mut changed) = (Turns::of(case), Changed::of(case));
+    let due = 256 * changed.count as u64;
+    let mut port = |out: &mut ByteLists| {
+        let [head, low, high] = turns.words();
+        let answer = unsafe {
+            capi_change(
+                net.wiring.as_ptr(), net.wiring.len(), readings.as_mut_ptr(), readings.len(),
+                net.term_index.as_ptr(), net.term_index.len(),
+                net.term_coefficient.as_ptr(), net.term_coefficient.len(), s.as_ptr(), s.len(),
+                out.rows.as_mut_ptr(), out.rows.len(), out.cols.as_mut_ptr(), out.cols.len(),
+                out.values.as_mut_ptr(), out.values.len(), head, low, high,
+            )
+        };
+        assert_eq!(black_box(answer), due);
+    };
+    for _ in 0..2 {
+        port(&mut out);
+        out.hold(&changed.next());
     }
+    side_by_side(
+        || port(&mut out),
+        || {
+            black_box(changed.next());
+        },
+    )
+}
+
+fn by_words(case: &Case) -> Times {
+    let (net, s) = (&case.words, &case.sheet);
+    let (mut readings, mut out) = (net.readings.clone(), WordLists::of_words(case.most_triplets()));
+    let (mut turns, mut changed) = (Turns::of(case), Changed::of(case));
+    let due = 256 * changed.count as u64;
+    let mut port = |out: &mut WordLists| {
+        let [head, low, high] = turns.words();
+        let answer = unsafe {
+            site_change(
+                net.wiring.as_ptr(), net.wiring.len(), readings.as_mut_ptr(), readings.len(),
+                net.term_index.as_ptr(), net.term_index.len(),
+                net.term_coefficient.as_ptr(), net.term_coefficient.len(), s.as_ptr(), s.len(),
+                out.rows.as_mut_ptr(), out.rows.len(), out.cols.as_mut_ptr(), out.cols.len(),
+                out.values.as_mut_ptr(), out.values.len(), head, low, high,
+            )
+        };
+        assert_eq!(black_box(answer), due);
+    };
+    for _ in 0..2 {
+        port(&mut out);
+        out.hold(&changed.next());
+    }
+    side_by_side(
+        || port(&mut out),
+        || {
+            black_box(changed.next());
+        },
+    )
+}
+
+/// A run of changes; the sheets keep the last list.
+fn run(case: &Case) -> Times {
+    let (net, s) = (&case.words, &case.sheet);
+    let (mut readings, mut out) = (net.readings.clone(), WordLists::of_words(case.most_triplets()));
+    let (mut turns, mut changed) = (Turns::of(case), Changed::of(case));
+    let changes: Vec<u32> = (0..RUN).flat_map(|_| turns.words()).collect();
+    let (mut numbers, mut counted) = ([u32::MAX; RUN], [u32::MAX; RUN]);
+    let mut port = |out: &mut WordLists, numbers: &mut [u32], counted: &mut [u32]| {
+        let answer = unsafe {
+            site_run_changes(
+                net.wiring.as_ptr(), net.wiring.len(), readings.as_mut_ptr(), readings.len(),
+                net.term_index.as_ptr(), net.term_index.len(),
+                net.term_coefficient.as_ptr(), net.term_coefficient.len(), s.as_ptr(), s.len(),
+                out.rows.as_mut_ptr(), out.rows.len(), out.cols.as_mut_ptr(), out.cols.len(),
+                out.values.as_mut_ptr(), out.values.len(), changes.as_ptr(), changes.len(),
+                numbers.as_mut_ptr(), numbers.len(), counted.as_mut_ptr(), counted.len(),
+            )
+        };
+        assert_eq!(black_box(answer), 0);
+    };
+    port(&mut out, &mut numbers, &mut counted);
+    assert_eq!((numbers, counted), ([0; RUN], [changed.count as u32; RUN]));
+    let lists: Vec<Triplets> = (0..RUN).map(|_| changed.next()).collect();
+    out.hold(&lists[RUN - 1]);
+    side_by_side(
+        || port(&mut out, &mut numbers, &mut counted),
+        || {
+            for _ in 0..RUN {
+                black_box(changed.next());
+            }
+        },
+    )
+}
+
+pub fn rows(table: &mut Table, cases: &[Case]) {
+    table.call("change", Form::Words, "k", cases, by_words);
+    table.call("change", Form::Bytes, "k", cases, by_bytes);
+    table.call("change, a run of 16", Form::Words, "k", cases, run);
 }

@@ -1,5 +1,5 @@
 //! All columns of the demands contracted with all prices, adjoint and forward, beside the original's
-//! `forward_adjoint`.
+//! `forward_adjoint`, and the right side handed to the solve.
 //!
 //! An export's time is that of the first and the third call: both test the network and the selector, the
 //! third also every word of the parameter sheet and of the solved columns. The solve between them isn't
@@ -8,8 +8,10 @@
 //! Freed memory is kept for the next call, so that the original's own sheets cost it no page faults. The
 //! list is empty: exchanging its rows and columns when adjoint is the outside solve's work here.
 
-use crate::{network, side_by_side_less, solution};
-use oracle::{forward_adjoint, Mode, Network, Operand, Oracle, Parameter, Power, Selector};
+use crate::case::{hold, on, solution, Case};
+use crate::timing::{alone, side_by_side_less, Times};
+use crate::{Form, Table};
+use oracle::{forward_adjoint, Mode, Operand, Parameter, Power, Selector};
 use std::cell::{Cell, RefCell};
 use std::hint::black_box;
 use std::time::{Duration, Instant};
@@ -23,6 +25,11 @@ extern "C" {
         count: *mut usize,
     ) -> u32;
     #[rustfmt::skip]
+    fn sens_right_side(
+        mode: u32, count: usize, parameter: *const f64, parameterl: usize, selection: *const f64, selectionl: usize,
+        out: *mut f64, outl: usize,
+    ) -> usize;
+    #[rustfmt::skip]
     fn sens_contraction_third(
         w: *const u32, wl: usize, r: *const f64, rl: usize, ti: *const u32, til: usize, tc: *const f64, tcl: usize,
         mode: u32, sign: f64, counts: *const u32, countsl: usize, rows: *const u32, rowsl: usize,
@@ -31,26 +38,9 @@ extern "C" {
     ) -> u32;
 }
 
-/// Keeps freed memory, of blocks up to 32 MB, instead of handing it back to the system.
-#[cfg(target_env = "gnu")]
-fn keep_memory() {
-    extern "C" {
-        fn mallopt(parameter: i32, value: i32) -> i32;
-    }
-    const TRIM_THRESHOLD: i32 = -1;
-    const MMAP_THRESHOLD: i32 = -3;
-    unsafe {
-        mallopt(TRIM_THRESHOLD, i32::MAX);
-        mallopt(MMAP_THRESHOLD, 1 << 25);
-    }
-}
-
-#[cfg(not(target_env = "gnu"))]
-fn keep_memory() {}
-
-/// A network with the columns of its demands and the selector of its prices, as many as it has buses.
-struct Case {
-    net: Network,
+/// The columns of a network's demands and the selector of its prices, as many as it has buses.
+struct Contraction<'a> {
+    case: &'a Case,
     dim: usize,
     buses: usize,
     parameter: Vec<f64>,
@@ -62,28 +52,26 @@ struct Case {
     weights: Vec<f64>,
 }
 
-impl Case {
-    fn new(n: usize, m: usize, k: usize) -> Case {
-        let net = network(n, m, k);
-        let original = Oracle::new(&net);
-        let (dim, sheet) = (original.dim(), solution(original.solution_len()));
+impl Contraction<'_> {
+    fn of(case: &Case) -> Contraction<'_> {
+        let (original, n) = (&case.original, case.size.n);
         let buses: Vec<usize> = (0..n).collect();
         let demand = Parameter::Demand(Power::Active);
-        let Ok(parameter) = original.parameter_jacobian(&sheet, demand, &buses) else {
+        let Ok(parameter) = original.parameter_jacobian(&case.sheet, demand, &buses) else {
             panic!("demands are served");
         };
         let Ok(selector) = original.operand_selector(Operand::Price(Power::Active)) else {
             panic!("prices are served");
         };
         let entries = || selector.map.iter().flatten();
-        Case {
+        Contraction {
+            case,
+            dim: original.dim(),
+            buses: n,
+            ready: solution(original.dim() * n),
             counts: selector.map.iter().map(|entries| entries.len() as u32).collect(),
             rows: entries().map(|entry| entry.0 as u32).collect(),
             weights: entries().map(|entry| entry.1).collect(),
-            ready: solution(dim * n),
-            net,
-            dim,
-            buses: n,
             parameter,
             selector,
         }
@@ -96,17 +84,17 @@ impl Case {
 
     /// The two calls around a solve that answers `x`.
     fn ours(&self, mode: u32, p: &[f64], x: &[f64], selection: &mut [f64], out: &mut [f64]) {
-        let (w, r) = (&self.net.wiring, &self.net.readings);
+        let (net, sign) = (&self.case.words, self.sign());
         let (c, i, g) = (&self.counts, &self.rows, &self.weights);
         let (mut before, mut after) = (0, 0);
         let answers = unsafe {
-            let first = sens_contraction_first(
-                w.as_ptr(), w.len(), r.as_ptr(), r.len(), w.as_ptr(), 0, r.as_ptr(), 0, mode, self.sign(),
+            let first = on!(
+                sens_contraction_first, net, mode, sign,
                 c.as_ptr(), c.len(), i.as_ptr(), i.len(), g.as_ptr(), g.len(), self.buses,
                 selection.as_mut_ptr(), selection.len(), &mut before,
             );
-            let third = sens_contraction_third(
-                w.as_ptr(), w.len(), r.as_ptr(), r.len(), w.as_ptr(), 0, r.as_ptr(), 0, mode, self.sign(),
+            let third = on!(
+                sens_contraction_third, net, mode, sign,
                 c.as_ptr(), c.len(), i.as_ptr(), i.len(), g.as_ptr(), g.len(), self.buses,
                 p.as_ptr(), p.len(), x.as_ptr(), x.len(), out.as_mut_ptr(), out.len(), &mut after,
             );
@@ -122,16 +110,17 @@ impl Case {
         forward_adjoint(self.dim, &[], p, map, sign, mode, self.buses, |_, right, _| solve(right))
     }
 
-    /// The words of both sides, each compared once: the result, and when adjoint the right side.
+    /// The words of both sides: the result, and when adjoint the right side.
     fn hold(&self, mode: Mode, selection: &[f64], out: &[f64]) {
         let right = RefCell::new(Vec::new());
         let due = self.theirs(mode, self.parameter.clone(), |side| {
             *right.borrow_mut() = side.to_vec();
             self.ready.clone()
         });
-        let bits = |words: &[f64]| words.iter().map(|x| x.to_bits()).collect::<Vec<u64>>();
-        assert!(bits(out) == bits(&due.concat()));
-        assert!(mode != Mode::Adjoint || bits(selection) == bits(&right.into_inner()));
+        hold(out, &due.concat());
+        if mode == Mode::Adjoint {
+            hold(selection, &right.into_inner());
+        }
     }
 }
 
@@ -142,36 +131,52 @@ fn copy(sheet: &[f64]) -> (Vec<f64>, Duration) {
     (copy, begun.elapsed())
 }
 
-/// The contraction on a network of this size.
-pub fn contraction(n: usize, m: usize, k: usize) {
-    keep_memory();
-    let case = Case::new(n, m, k);
-    let (mut selection, mut out) = (vec![0f64; case.ready.len()], vec![0f64; n * n]);
-    for (name, code, mode) in [("adjoint", 1, Mode::Adjoint), ("forward", 0, Mode::Forward)] {
-        let (ours, theirs) = side_by_side_less(
-            || {
-                let ((p, first), (x, second)) = (copy(&case.parameter), copy(&case.ready));
-                case.ours(code, &p, &x, &mut selection, &mut out);
-                first + second
-            },
-            || {
-                let (p, first) = copy(&case.parameter);
-                let copied = Cell::new(first);
-                let words = case.theirs(mode, p, |right| {
-                    black_box(right);
-                    let (x, second) = copy(&case.ready);
-                    copied.set(first + second);
-                    x
-                });
-                black_box(words);
-                copied.get()
-            },
-        );
-        case.hold(mode, &selection, &out);
-        println!(
-            "n {n} m {m} k {k}: contraction {name} by words {n} prices, {n} columns of demand, dim {}, {ours:.1} us, the Rust {theirs:.1} us, ratio {:.2}",
-            case.dim,
-            ours / theirs
-        );
-    }
+fn contraction(case: &Case, code: u32, mode: Mode) -> Times {
+    let given = Contraction::of(case);
+    let (mut selection, mut out) = (vec![0f64; given.ready.len()], vec![0f64; given.buses * given.buses]);
+    given.ours(code, &given.parameter, &given.ready, &mut selection, &mut out);
+    given.hold(mode, &selection, &out);
+    side_by_side_less(
+        || {
+            let ((p, first), (x, second)) = (copy(&given.parameter), copy(&given.ready));
+            given.ours(code, &p, &x, &mut selection, &mut out);
+            first + second
+        },
+        || {
+            let (p, first) = copy(&given.parameter);
+            let copied = Cell::new(first);
+            let words = given.theirs(mode, p, |right| {
+                black_box(right);
+                let (x, second) = copy(&given.ready);
+                copied.set(first + second);
+                x
+            });
+            black_box(words);
+            copied.get()
+        },
+    )
+}
+
+/// The right side when forward, the whole parameter sheet. The original moves its own.
+fn right_side(case: &Case) -> Times {
+    let given = Contraction::of(case);
+    let (p, mut out) = (&given.parameter, vec![0f64; given.parameter.len()]);
+    let port = |out: &mut [f64]| {
+        let length = unsafe {
+            sens_right_side(FORWARD, p.len(), p.as_ptr(), p.len(), p.as_ptr(), 0, out.as_mut_ptr(), out.len())
+        };
+        assert_eq!(black_box(length), p.len());
+    };
+    port(&mut out);
+    hold(&out, p);
+    alone(|| port(&mut out))
+}
+
+const FORWARD: u32 = 0;
+const ADJOINT: u32 = 1;
+
+pub fn rows(table: &mut Table, cases: &[Case]) {
+    table.call("contraction, adjoint", Form::Words, "c", cases, |case| contraction(case, ADJOINT, Mode::Adjoint));
+    table.call("contraction, forward", Form::Words, "c", cases, |case| contraction(case, FORWARD, Mode::Forward));
+    table.call("right_side", Form::Words, "n", cases, right_side);
 }

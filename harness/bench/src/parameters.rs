@@ -1,7 +1,9 @@
-//! All columns of the demands beside the original's block, whose system is made in the same call.
+//! All columns of each served parameter beside the original's block, whose system is made in the same call.
 
-use crate::{network, side_by_side, solution};
-use oracle::{Differentiable, Oracle, Parameter, Power};
+use crate::case::{hold, on, Case};
+use crate::timing::{side_by_side, Times};
+use crate::{Form, Table};
+use oracle::{CostTerm, Differentiable, Parameter, Power, GB};
 use std::hint::black_box;
 
 extern "C" {
@@ -12,42 +14,54 @@ extern "C" {
     ) -> u32;
 }
 
-const ACTIVE_DEMAND: u32 = 0;
+/// The served parameters with their numbers.
+const SERVED: [(&str, u32, Parameter); 7] = [
+    ("demand", 0, Parameter::Demand(Power::Active)),
+    ("quadratic cost", 2, Parameter::Cost(CostTerm::Quadratic)),
+    ("linear cost", 3, Parameter::Cost(CostTerm::Linear)),
+    ("line limit", 4, Parameter::LineLimit),
+    ("susceptance", 6, Parameter::SeriesAdmittance(GB::Susceptance)),
+    ("switching", 17, Parameter::Switching),
+    ("constraint limit", 18, Parameter::ConstraintLimit),
+];
 
-/// The block of a network of this size. Every word is compared once.
-pub fn parameters(n: usize, m: usize, k: usize) {
-    let net = network(n, m, k);
-    let original = Oracle::new(&net);
-    let sheet = solution(original.solution_len());
-    let solved = original.solved(&sheet);
-    let demand = Parameter::Demand(Power::Active);
-    let buses: Vec<usize> = (0..n).collect();
-    let columns: Vec<u32> = (0..n as u32).collect();
-    let Ok(due) = original.parameter_jacobian(&sheet, demand, &buses) else {
-        panic!("demands are served");
+/// All elements of a parameter, but no generator with a piecewise cost for either cost.
+fn elements(case: &Case, parameter: Parameter) -> Vec<usize> {
+    let count = case.original.parameter_len(parameter).expect("it is served");
+    let of_cost = matches!(parameter, Parameter::Cost(_));
+    (0..count).filter(|&element| !of_cost || !case.has_piecewise_cost(element)).collect()
+}
+
+fn block(case: &Case, number: u32, parameter: Parameter) -> Times {
+    let elements = elements(case, parameter);
+    let columns: Vec<u32> = elements.iter().map(|&element| element as u32).collect();
+    let Ok(due) = case.original.parameter_jacobian(&case.sheet, parameter, &elements) else {
+        panic!("it is served");
     };
-    let (w, r, s) = (&net.wiring, &net.readings, &sheet);
-    let mut block = vec![0f64; due.len()];
-    let (ours, theirs) = side_by_side(
+    let (s, mut block) = (&case.sheet, vec![0f64; due.len()]);
+    let port = |block: &mut [f64]| {
+        let answer = unsafe {
+            on!(
+                sens_parameter_jacobian, case.words, s.as_ptr(), s.len(), number, columns.as_ptr(), columns.len(),
+                block.as_mut_ptr(), block.len(),
+            )
+        };
+        assert_eq!(black_box(answer), 0);
+    };
+    port(&mut block);
+    hold(&block, &due);
+    side_by_side(
+        || port(&mut block),
         || {
-            let answer = unsafe {
-                sens_parameter_jacobian(
-                    w.as_ptr(), w.len(), r.as_ptr(), r.len(), w.as_ptr(), 0, r.as_ptr(), 0,
-                    s.as_ptr(), s.len(), ACTIVE_DEMAND, columns.as_ptr(), columns.len(),
-                    block.as_mut_ptr(), block.len(),
-                )
-            };
-            assert_eq!(black_box(answer), 0);
+            let kkt = case.original.kkt_of(black_box(&case.solved));
+            assert!(black_box(kkt.parameter_jacobian(parameter, &elements)).is_ok());
         },
-        || {
-            let kkt = original.kkt_of(black_box(&solved));
-            assert!(black_box(kkt.parameter_jacobian(demand, &buses)).is_ok());
-        },
-    );
-    assert_eq!(block, due);
-    println!(
-        "n {n} m {m} k {k}: parameter_jacobian by words {n} columns of demand, {} words, {ours:.1} us, the Rust {theirs:.1} us, ratio {:.2}",
-        due.len(),
-        ours / theirs
-    );
+    )
+}
+
+pub fn rows(table: &mut Table, cases: &[Case]) {
+    for (name, number, parameter) in SERVED {
+        let name = format!("parameter_jacobian, {name}");
+        table.call(&name, Form::Words, "k", cases, |case| block(case, number, parameter));
+    }
 }

@@ -1,0 +1,121 @@
+// The terms as a lent slice of small records, each an index and a coefficient: taken apart into two arrays for the model's own call.
+use model::dc;
+use sequence::Answer;
+ghost use mathlib.Core.Path.{_≡_};
+ghost use Prim.Native.Nat.{ℕ, _≤_};
+ghost use Rattle.sequence.specs.Answers.{filled};
+ghost use Rattle.model.specs.Calls.{evaluateCall};
+ghost use Rattle.terms.specs.Terms.{putAt, Apart, columnsCall, networkOf};
+
+pub struct Term {
+    pub index: u32,
+    pub coefficient: f64,
+}
+
+// The terms' indexes and coefficients, in the fronts of two arrays.
+struct Columns {
+    indexes: [u32; 1024],
+    coefficients: [f64; 1024],
+}
+
+fn blank() -> Columns {
+    let indexes = [0u32; 1024];
+    let coefficients = [0.0; 1024];
+    Columns {
+        indexes,
+        coefficients,
+    }
+}
+
+// One term more, at place i; nothing past the arrays.
+fn put(c: Columns, i: usize, t: Term) -> Columns
+    ensures { λ r. ⌜ r ≡ putAt c i t ⌝ }
+{
+    let mut d = c;
+    if i < 1024 {
+        d.indexes[i] = t.index;
+        d.coefficients[i] = t.coefficient;
+    }
+    d
+}
+
+// How many terms are taken apart: all, or none where the arrays have no room for them.
+fn to_take(n: usize) -> usize
+    ensures { λ (r : ℕ). ⌜ (r ≤ n) × (n ≤ 1024 → r ≡ n) ⌝ }
+{
+    if n > 1024 {
+        return 0;
+    }
+    n
+}
+
+// The terms taken apart.
+fn take_apart(terms: &[Term]) -> Columns
+    ensures { λ r. ⌜ Apart (now (terms .entry)) r ⌝ }
+{
+    let mut c = blank();
+    let n = to_take(terms.len());
+    let mut i: usize = 0;
+    while i < n {
+        c = put(c, i, terms[i]);
+        i += 1;
+    }
+    c
+}
+
+// A linear row's value, the terms being the fronts of n places.
+fn evaluate_columns(
+    wiring: &[u32],
+    readings: &[f64],
+    c: Columns,
+    n: usize,
+    row: usize,
+    f: &[f64],
+    pg: &[f64],
+    out: &mut [f64],
+) -> Answer
+    ensures { λ a. ⌜ filled (a .number) (a .count) (now (out .exit)) ≡ columnsCall (now (wiring .entry)) (now (readings .entry)) c n row (now (f .entry)) (now (pg .entry)) (now (out .entry)) ⌝ }
+{
+    let indexes = c.indexes;
+    let coefficients = c.coefficients;
+    if n > 1024 {
+        return Answer {
+            number: 1,
+            count: 0,
+        };
+    }
+    dc::evaluate(
+        wiring,
+        readings,
+        &indexes[..n],
+        &coefficients[..n],
+        row,
+        f,
+        pg,
+        out,
+    )
+}
+
+// A linear row's value at flows and powers.
+pub fn evaluate(
+    wiring: &[u32],
+    readings: &[f64],
+    terms: &[Term],
+    row: usize,
+    f: &[f64],
+    pg: &[f64],
+    out: &mut [f64],
+) -> Answer
+    ensures { λ a. ⌜ filled (a .number) (a .count) (now (out .exit)) ≡ evaluateCall (networkOf (now (wiring .entry)) (now (readings .entry)) (now (terms .entry))) row (now (f .entry)) (now (pg .entry)) (now (out .entry)) ⌝ }
+{
+    evaluate_columns(
+        wiring,
+        readings,
+        take_apart(terms),
+        terms.len(),
+        row,
+        f,
+        pg,
+        out,
+    )
+}

@@ -14,4 +14,5 @@ pub mod Matrix
 pub mod Affine
 pub mod Constants
 pub mod Residual
+pub mod Optimal
 pub mod Integers

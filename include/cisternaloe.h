@@ -13,7 +13,9 @@
  *   4 kind   5 element   6 piecewise cost
  *   7 short: a lent output shorter than the result
  * On 0 the result fills the front of its sheet and later words keep their bits; on any other number no word changes. Unless
- * its comment says otherwise a call answers number + 256 times count, and the count is 0 with every other number.
+ * its comment says otherwise a call that answers a uint64_t answers number + 256 times count, and the count is 0 with every
+ * other number; one that answers a uint32_t answers the number alone, and where it is lent a word `count`, that word becomes
+ * the count on 0 and else stays as it was.
  */
 #ifndef CISTERNALOE_H
 #define CISTERNALOE_H
@@ -73,8 +75,8 @@ uint64_t capi_row_kind(CISTERNALOE_NETWORK_BYTES, size_t row);
 
 /* ---- libcapi_sens.a: the calls of the derivatives */
 
-/* The KKT matrix at the snapped solution as triplets, in three sheets that hold at most 26m + 10n + 9k + 5S + 2R +
- * 4T + 2q of them. The solution's last q + 1 words are not looked at. */
+/* The KKT matrix at the snapped solution as triplets, at most 26m + 10n + 9k + 5S + 2R + 4T + 2q of them, in three
+ * sheets. The solution's last q + 1 words are not looked at. */
 uint64_t sens_kkt_triplets(CISTERNALOE_NETWORK, const double *solution, size_t solution_length, uint32_t *rows,
     size_t rows_length, uint32_t *cols, size_t cols_length, double *values, size_t values_length);
 
@@ -150,7 +152,7 @@ uint64_t capi_read_dc_solution(CISTERNALOE_NETWORK_BYTES, const uint8_t *x, size
 /* The KKT residual's partials in a parameter, a column of dim words for each listed element, column after column.
  * Parameters are numbered 0 to 18 in the order of sens/interface.rs; served are 0 active demand, 2 and 3 quadratic and linear
  * cost, 4 line limit, 6 series susceptance, 17 switching, 18 constraint limit, and another is 4 unless no column is listed. An
- * element that isn't there is 5, a cost of a generator with piecewise cost 6. The answer is the number alone. */
+ * element that isn't there is 5, a cost of a generator with piecewise cost 6. */
 uint32_t sens_parameter_jacobian(CISTERNALOE_NETWORK, const double *solution, size_t solution_length,
     uint32_t parameter, const uint32_t *columns, size_t columns_length, double *sheet, size_t sheet_length);
 
@@ -158,7 +160,7 @@ uint32_t sens_parameter_jacobian(CISTERNALOE_NETWORK, const double *solution, si
 
 /* For each element of an operand the row of the system that it reads: one sign, an entry count for each element,
  * and the entries' rows and weights. Operands are numbered 0 to 12; served are 0 active price, 2 active dispatch, 4 active flow
- * at the from end, 9 angle, and another is 4. The answer is the number; on 0 `count` is the number of entries. */
+ * at the from end, 9 angle, and another is 4. `count` is of entries. */
 uint32_t sens_operand_selector(CISTERNALOE_NETWORK, uint32_t operand, double *sign, size_t sign_length,
     uint32_t *counts, size_t counts_length, uint32_t *rows, size_t rows_length, double *weights,
     size_t weights_length, size_t *count);

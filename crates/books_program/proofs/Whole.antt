@@ -1,6 +1,6 @@
 -- The assembled program is the manual's: its constraints, their rows and right sides, every row, its Hessian and its costs.
 -- Main results: `program-is-the-manuals`, `accepted-program`. Assumes nothing.
-use mathlib.Core.Path.{_≡_, refl, ap}
+use mathlib.Core.Path.{_≡_, refl}
 use mathlib.Core.Bool.{Bool, true, false}
 use mathlib.Core.List.{List, [], _∷_}
 use Prim.Native.Nat.{ℕ, _+_, _<_}
@@ -32,7 +32,7 @@ use Rattle.opf_layout.specs.Layout.{activeRank, flagged, sheds, equalities, ine
 use Rattle.opf_layout.proofs.Ranks.{rank-below, equality-below, inequality-below}
 use Rattle.opf_assembly.specs.Assembly.{blank, from, to, aEntries, bSheet}
 use Rattle.books.specs.Forms as forms
-use Rattle.books.specs.Forms.{Form, plain}
+use Rattle.books.specs.Forms.{Form}
 use Rattle.books.specs.Convex.{Constraint, Gradient}
 use Rattle.books.specs.Manual.{Site, balance, flowLaw, reference, flowFloor, flowCeiling, generatorFloor, generatorCeiling, shedFloor, shedCeiling, angleFloor, angleCeiling, segment, rowCeiling, rowFloor, rowLevel, rowTerms, turnedNum}
 use Rattle.books.specs.Matrix.{Doubles}
@@ -73,7 +73,7 @@ module _ (c : Counts) (w : List ℕ) (r : List Float) (ti : List ℕ) (tc : List
     row-is x b a i l n e p q s = record {
       entries = λ k j z has.
           rw (e, a-values c (activeOf c w r) (reading c r) blank a i k (columnIndex c w r ti tc k j) n (index-below c w r ti tc k j z has) (entries-inside c w r ti tc h m), p) (q k j has);
-      right = ap plain s;
+      right = s;
     }
 
     balance-is : (i : ℕ) → i < c .buses → RowIs c w r ti tc (asRow (balance own i) true Balance i)
@@ -81,7 +81,7 @@ module _ (c : Counts) (w : List ℕ) (r : List Float) (ti : List ℕ) (tc : List
       entries = λ k j z has.
           rw (a-values c (activeOf c w r) (reading c r) blank Balance i k (columnIndex c w r ti tc k j) l (index-below c w r ti tc k j z has) (entries-inside c w r ti tc h m))
           (balance-entries c w r ti tc i l k j z has);
-      right = ap plain (Sides.balance-side c w r ti tc i l);
+      right = Sides.balance-side c w r ti tc i l;
     }
 
     flow-is : (e : ℕ) → e < c .branches → RowIs c w r ti tc (asRow (flowLaw own e) true FlowRow e)

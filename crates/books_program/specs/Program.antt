@@ -92,7 +92,7 @@ module _ (c : Counts) (w : List ℕ) (r : List Float) (ti : List ℕ) (tc : List
   pub record RowIs (x : Rowed) : Type 0 where
     pub entries : (k : OpfColumn) (j : ℕ) → j < columnElements c k → hasColumn k j ≡ true
         → Holds (together (x .row) k) (valuesAt (aTriplets c w r ti tc) (rowAt x, columnAt k j)) (termValues constant (x .constraint .gradient) (variable k j))
-    pub right : Alike (getD (bSheet c w r) (rowAt x) nan) (constant (x .constraint .right))
+    pub right : getD (bSheet c w r) (rowAt x) nan ≡ constant (x .constraint .right)
 
   -- P is ∇²f0
   abbrev pub HessianIs : Type 0

@@ -23,12 +23,16 @@ fn files(folder: &Path, found: &mut Vec<PathBuf>) {
     }
 }
 
-/// The names that a line of a crate's file declares: behind its modifiers all words up to a colon, a
-/// parenthesis, a brace or an equals sign.
+/// The names that a line of a crate's file declares: behind its modifiers all words up to a colon or,
+/// where a modifier says what is declared, up to a parenthesis, a brace or the like.
 fn declared(line: &str, names: &mut HashSet<String>) {
     let line = line.trim();
     let line = line.strip_prefix("extern \"C\" ").unwrap_or(line);
     let end = line.find([':', '(', '{', '=', '<', ';', ',']).unwrap_or(line.len());
+    let said = line[..end].split_whitespace().any(|word| MODIFIERS[3..].contains(&word));
+    if !said && !line[end..].starts_with(':') {
+        return;
+    }
     for word in line[..end].split_whitespace() {
         if word == "--" || word == "//" || word == "use" {
             return;

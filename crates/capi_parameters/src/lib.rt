@@ -1,23 +1,11 @@
 // `parameter_jacobian` as an extern "C" function on typed slices, for programs in other languages.
-use interface::Parameter;
-use interface::ParameterCode;
-use interface::Power;
-use interface::codes::parameter_of;
+use asked::parameter_asked;
 ghost use mathlib.Core.Path.{_≡_};
 ghost use Rattle.network.specs.Numbers.{lent};
 ghost use Rattle.interface.specs.Codes.{parameterOf};
 ghost use Rattle.sens_parameters.specs.Calls.{jacobianCall};
-ghost use Rattle.capi_parameters.specs.Numbered.{askedOf, numbered, numbering};
-
-// The parameter that a number stands for; past the last, one that is not served.
-fn asked(code: u32) -> Parameter
-    ensures { λ r. ⌜ r ≡ askedOf (parameterOf code) ⌝ }
-{
-    match parameter_of(code) {
-        ParameterCode::Known(p) => p,
-        ParameterCode::Unknown => Parameter::Demand(Power::Reactive),
-    }
-}
+ghost use Rattle.asked.specs.Asked.{parameterAsked};
+ghost use Rattle.capi_parameters.specs.Numbered.{numbered, numbering};
 
 // The number; on 0 as many columns as are listed are in front of the sheet.
 #[no_mangle]
@@ -31,9 +19,9 @@ pub extern "C" fn sens_parameter_jacobian(
     columns: &[u32],
     sheet: &mut [f64],
 ) -> u32
-    ensures { λ n. ⌜ numbered n (now (sheet .exit)) ≡ numbering (jacobianCall (lent (wiring .entry) (readings .entry) («term_index» .entry) («term_coefficient» .entry)) (now (solution .entry)) (askedOf (parameterOf parameter)) (now (columns .entry)) (now (sheet .entry))) ⌝ }
+    ensures { λ n. ⌜ numbered n (now (sheet .exit)) ≡ numbering (jacobianCall (lent (wiring .entry) (readings .entry) («term_index» .entry) («term_coefficient» .entry)) (now (solution .entry)) (parameterAsked (parameterOf parameter)) (now (columns .entry)) (now (sheet .entry))) ⌝ }
 {
-    let p = asked(parameter);
+    let p = parameter_asked(parameter);
     let a = sens_parameters::parameter_jacobian(
         wiring,
         readings,

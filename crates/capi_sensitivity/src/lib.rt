@@ -1,18 +1,8 @@
 // The selector, the contraction around an outside solve and the unit scale as extern "C" functions on typed
 // slices, for programs in other languages.
-use float64::base_high;
-use float64::base_low;
-use float64::in_range;
-use interface::Mode;
-use interface::ModeCode;
-use interface::Operand;
-use interface::OperandCode;
-use interface::ParameterCode;
-use interface::Power;
-use interface::codes::mode_of;
-use interface::codes::operand_of;
-use interface::codes::parameter_of;
-use interface::scale::served_unit_scale;
+use asked::mode_asked;
+use asked::operand_asked;
+use asked::scale;
 use sens::contraction_first;
 use sens::contraction_third;
 use sens::right_side;
@@ -22,33 +12,13 @@ ghost use mathlib.Core.Path.{_≡_};
 ghost use Prim.Native.Nat.{_≤_};
 ghost use lib.ListN.{length};
 ghost use Rattle.sequence.specs.Lists.{front};
-ghost use Rattle.sequence.specs.Answers.{filled};
 ghost use Rattle.network.specs.Numbers.{lent};
 ghost use Rattle.interface.specs.Codes.{operandOf, parameterOf, modeOf};
 ghost use Rattle.contraction.specs.Contraction.{selectorOf};
 ghost use Rattle.sens.specs.Calls.{firstCall, sideOf, thirdCall};
 ghost use Rattle.sens_operands.specs.Calls.{selection, selectorCall};
-ghost use Rattle.capi_sensitivity.specs.Told.{operandAsked, modeAsked, noted, told, counting, chosen, selecting, unknownNumber, knownScale, scaling, copied, copying};
-
-// The operand that a number stands for; past the last, one that is not served.
-fn operand_asked(code: u32) -> Operand
-    ensures { λ r. ⌜ r ≡ operandAsked (operandOf code) ⌝ }
-{
-    match operand_of(code) {
-        OperandCode::Known(o) => o,
-        OperandCode::Unknown => Operand::Price(Power::Reactive),
-    }
-}
-
-// The mode that a number stands for; past the last, the one that is not served.
-fn mode_asked(code: u32) -> Mode
-    ensures { λ r. ⌜ r ≡ modeAsked (modeOf code) ⌝ }
-{
-    match mode_of(code) {
-        ModeCode::Known(m) => m,
-        ModeCode::Unknown => Mode::Auto,
-    }
-}
+ghost use Rattle.asked.specs.Asked.{operandAsked, modeAsked, scaling};
+ghost use Rattle.capi_sensitivity.specs.Told.{noted, told, counting, chosen, selecting, copied, copying};
 
 // The number; on 0 the count goes to its word.
 fn note(a: Answer, count: &mut usize) -> u32
@@ -193,42 +163,6 @@ pub extern "C" fn sens_contraction_third(
         out,
     );
     note(a, count)
-}
-
-// The number where an operand or a parameter is none.
-fn unknown(base: f64) -> u32
-    ensures { λ n. ⌜ n ≡ unknownNumber base ⌝ }
-{
-    if !in_range(base, base_low(), base_high()) {
-        return 3;
-    }
-    4
-}
-
-// The scale of a known operand, the parameter by its number.
-fn known_scale(o: Operand, parameter: u32, base: f64, out: &mut [f64]) -> Answer
-    ensures { λ a. ⌜ filled (a .number) (a .count) (now (out .exit)) ≡ knownScale o (parameterOf parameter) base (now (out .entry)) ⌝ }
-{
-    match parameter_of(parameter) {
-        ParameterCode::Known(p) => served_unit_scale(o, p, base, out),
-        ParameterCode::Unknown => Answer {
-            number: unknown(base),
-            count: 0,
-        },
-    }
-}
-
-// The scale, operand and parameter by their numbers.
-fn scale(operand: u32, parameter: u32, base: f64, out: &mut [f64]) -> Answer
-    ensures { λ a. ⌜ filled (a .number) (a .count) (now (out .exit)) ≡ scaling (operandOf operand) (parameterOf parameter) base (now (out .entry)) ⌝ }
-{
-    match operand_of(operand) {
-        OperandCode::Known(o) => known_scale(o, parameter, base, out),
-        OperandCode::Unknown => Answer {
-            number: unknown(base),
-            count: 0,
-        },
-    }
 }
 
 // `served_unit_scale`; on 0 the scale is out's first word.

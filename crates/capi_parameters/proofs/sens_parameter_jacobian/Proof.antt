@@ -6,7 +6,7 @@ use Rattle.capi_parameters.proofs.sens_parameter_jacobian.Statement.{st
 use Rattle.capi_parameters.proofs.sens_parameter_jacobian.Tie as tie
 
 returns : tie.Need-returns
-returns c = rw (c .before .before .before .before .asked .ensures) at (ap numbering (c .before .before .parameter-jacobian .ensures))
+returns c = rw (c .before .before .before .before .parameter-asked .ensures) at (ap numbering (c .before .before .parameter-jacobian .ensures))
 
 pub sens-parameter-jacobian-spec : {M : Type 1} → statement M
 sens-parameter-jacobian-spec = tie.close (tie.spec (λ c κs. search needs) (λ c κs. search needs) (λ c. search needs) returns)

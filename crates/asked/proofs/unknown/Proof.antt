@@ -1,4 +1,4 @@
--- `capi_sensitivity::unknown` meets its contract: a base outside its limits before a number that stands for nothing. Assumes nothing.
+-- `asked::unknown` meets its contract: a base outside its limits before a number that stands for nothing. Assumes nothing.
 use mathlib.Core.Path.{_≡_, refl, sym, _∙_}
 use mathlib.Core.Bool.{Bool, true, false}
 use lib.Ieee.{Float}
@@ -6,9 +6,9 @@ use borrow.Author.Needs.{needs}
 use Rattle.float64.specs.Values.{baseLow, baseHigh, inRange}
 use Rattle.sequence.proofs.Lists.{failed, held}
 use Rattle.sequence.proofs.Answers.{passed, holding}
-use Rattle.capi_sensitivity.specs.Told.{unknownNumber}
-use Rattle.capi_sensitivity.proofs.unknown.Statement.{statement}
-use Rattle.capi_sensitivity.proofs.unknown.Tie as tie
+use Rattle.asked.specs.Asked.{unknownNumber}
+use Rattle.asked.proofs.unknown.Statement.{statement}
+use Rattle.asked.proofs.unknown.Tie as tie
 
 module _ (base : Float) where
   outside : inRange baseLow baseHigh base ≡ false → 3 ≡ unknownNumber base

@@ -1,7 +1,7 @@
--- `capi_sensitivity::known_scale` meets its contract, by what the number stands for. Assumes nothing.
+-- `asked::known_scale` meets its contract, by what the number stands for. Assumes nothing.
 use borrow.Author.Needs.{needs}
-use Rattle.capi_sensitivity.proofs.known_scale.Statement.{statement}
-use Rattle.capi_sensitivity.proofs.known_scale.Tie as tie
+use Rattle.asked.proofs.known_scale.Statement.{statement}
+use Rattle.asked.proofs.known_scale.Tie as tie
 
 returns : tie.Need-returns
 returns c =

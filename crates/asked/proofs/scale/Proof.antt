@@ -1,7 +1,7 @@
--- `capi_sensitivity::scale` meets its contract, by what the number stands for. Assumes nothing.
+-- `asked::scale` meets its contract, by what the number stands for. Assumes nothing.
 use borrow.Author.Needs.{needs}
-use Rattle.capi_sensitivity.proofs.scale.Statement.{statement}
-use Rattle.capi_sensitivity.proofs.scale.Tie as tie
+use Rattle.asked.proofs.scale.Statement.{statement}
+use Rattle.asked.proofs.scale.Tie as tie
 
 returns : tie.Need-returns
 returns c =

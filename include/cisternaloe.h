@@ -189,6 +189,42 @@ uint32_t sens_contraction_third(CISTERNALOE_NETWORK, uint32_t mode, double sign,
 uint32_t sens_served_unit_scale(uint32_t operand, uint32_t parameter, double base, double *out, size_t out_length,
     size_t *count);
 
+/* ---- libcapi_columns.a: a parameter's column and an operand's selector, on bytes */
+
+/* One column of a parameter, dim doubles; the count is of columns: 1. Parameters are numbered, and refused, as for
+ * sens_parameter_jacobian. */
+uint64_t capi_parameter_jacobian(CISTERNALOE_NETWORK_BYTES, const uint8_t *solution, size_t solution_length,
+    uint32_t parameter, uint32_t column, uint8_t *sheet, size_t sheet_length);
+
+/* sens_operand_selector on bytes: one double, 32-bit words, 32-bit words, doubles. */
+uint64_t capi_operand_selector(CISTERNALOE_NETWORK_BYTES, uint32_t operand, uint8_t *sign, size_t sign_length,
+    uint8_t *counts, size_t counts_length, uint8_t *rows, size_t rows_length, uint8_t *weights,
+    size_t weights_length);
+
+/* ---- libcapi_contraction.a: the contraction for one element and one column a call, and the unit scale, on bytes.
+ * Rows, weights and sheets that are lent in hold at most 6,544 words each, the greatest dim; longer ones are 1. */
+
+/* Before an outside solve, for one element of `entries` entries and one column: the count is dim. When adjoint (mode 1)
+ * dim doubles fill the front of the selection sheet; forward (mode 0) nothing is written. Refused as
+ * sens_contraction_first. */
+uint64_t capi_contraction_first(CISTERNALOE_NETWORK_BYTES, uint32_t mode, double sign, uint32_t entries,
+    const uint8_t *rows, size_t rows_length, const uint8_t *weights, size_t weights_length, uint8_t *selection,
+    size_t selection_length);
+
+/* sens_right_side on bytes: the part's length in doubles, and its bytes where `sheet` has room. A slice that is ragged
+ * or too long gives 0. */
+size_t capi_right_side(uint32_t mode, size_t count, const uint8_t *parameter, size_t parameter_length,
+    const uint8_t *selection, size_t selection_length, uint8_t *sheet, size_t sheet_length);
+
+/* After the solve, one double. Refused as sens_contraction_third. */
+uint64_t capi_contraction_third(CISTERNALOE_NETWORK_BYTES, uint32_t mode, double sign, uint32_t entries,
+    const uint8_t *rows, size_t rows_length, const uint8_t *weights, size_t weights_length, const uint8_t *parameter,
+    size_t parameter_length, const uint8_t *solved, size_t solved_length, uint8_t *sheet, size_t sheet_length);
+
+/* sens_served_unit_scale on bytes, one double. */
+uint64_t capi_served_unit_scale(uint32_t operand, uint32_t parameter, double base, uint8_t *sheet,
+    size_t sheet_length);
+
 #ifdef __cplusplus
 }
 #endif

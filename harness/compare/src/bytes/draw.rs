@@ -35,10 +35,10 @@ fn roomy(rng: &mut Rng, bytes: usize) -> usize {
 /// Bytes of an output that is one byte short, one word, several, or empty.
 fn short(rng: &mut Rng, bytes: usize, size: usize) -> usize {
     let missing = match rng.below(10) {
-        0..=4 => 1,
-        5..=6 => size,
-        7 => size + rng.between(1, size - 1),
-        8 => size * rng.between(2, 9),
+        0..=3 => 1,
+        4..=5 => size,
+        6 => size + rng.between(1, size - 1),
+        7 => size * rng.between(2, 9),
         _ => bytes,
     };
     bytes.saturating_sub(missing)

@@ -117,7 +117,7 @@ impl Bytes {
         let site = greatest(&mut rng);
         assert!(rules::dim(&site) == MOST, "dim of the greatest network");
         self.memory.fill_network(&site);
-        for _ in 0..40 {
+        for _ in 0..100 {
             let solution = solutions::sound(&mut rng, &site, true);
             self.accepted(&site, &solution, &mut rng, "the greatest network");
         }
@@ -160,7 +160,7 @@ impl Bytes {
         self.call(site, &side, None, origin);
         let third = script.third(rng);
         self.call(site, &third, None, origin);
-        for ask in [&first, &third, &third] {
+        for ask in [&first, &first, &third, &third] {
             let mut ask = ask.clone();
             draw::spoil(rng, dim, &mut ask);
             self.call(site, &ask, None, origin);
@@ -177,7 +177,7 @@ impl Bytes {
             self.call(site, &ask, None, origin);
         }
         let dim = crate::sensitivity::draw::dim(site);
-        for mode in [FORWARD, ADJOINT] {
+        for mode in [FORWARD, ADJOINT, FORWARD, ADJOINT] {
             let script = draw::script(rng, site, None, mode);
             for mut ask in [script.first(rng, dim), script.third(rng)] {
                 if rng.percent(75) {

@@ -18,7 +18,7 @@ const BYTES_FLOOR: u64 = 500;
 /// Each pair of numbers that hold together is met at least this often.
 const OVER_FLOOR: u64 = 200;
 /// What needs slices as long as are held is met at least this often.
-const LONG_FLOOR: u64 = 50;
+const LONG_FLOOR: u64 = 25;
 
 /// Numbers of each export, and pairs of them that can hold together, the first of which is answered.
 const NUMBERS: [(Export, &[usize], &[(usize, usize)]); 5] = [

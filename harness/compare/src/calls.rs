@@ -654,7 +654,7 @@ impl Op {
             return "problem_assemble_opf";
         }
         let own = |export: &str| export.strip_prefix("capi_") == Some(self.name);
-        EXPORTS.into_iter().find(|&export| own(export)).expect("each call has its export")
+        EXPORTS.iter().find(|export| own(export)).expect("each call has its export")
     }
 
     /// Whether the call takes typed slices, which have whole words.

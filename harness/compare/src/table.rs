@@ -1,43 +1,7 @@
 //! The one table of a run: for each exported call the cases that were run, those of them that were
 //! refused, and the mismatches.
 
-/// Every exported call, library by library, in the order of the C header.
-pub const EXPORTS: [&str; 34] = [
-    "capi_phase_withdrawal",
-    "capi_network_withdrawal",
-    "capi_current_fixed_withdrawal",
-    "capi_shed_cap",
-    "capi_current_flow_offset",
-    "capi_generator_cost",
-    "capi_evaluate",
-    "capi_susceptance_coo",
-    "capi_network_number",
-    "capi_row_kind",
-    "sens_kkt_triplets",
-    "capi_kkt_triplets",
-    "capi_snap",
-    "capi_snap_linear",
-    "capi_nu_flow_values",
-    "capi_change",
-    "site_change",
-    "site_run_changes",
-    "problem_assemble_opf",
-    "capi_assemble_opf",
-    "capi_nodal_marginal_values",
-    "capi_read_dc_solution",
-    "sens_parameter_jacobian",
-    "sens_operand_selector",
-    "sens_contraction_first",
-    "sens_right_side",
-    "sens_contraction_third",
-    "sens_served_unit_scale",
-    "capi_parameter_jacobian",
-    "capi_operand_selector",
-    "capi_contraction_first",
-    "capi_right_side",
-    "capi_contraction_third",
-    "capi_served_unit_scale",
-];
+pub use exports::NAMES as EXPORTS;
 
 /// The declarations that programs in C are given.
 const HEADER: &str = include_str!("../../../include/cisternaloe.h");

@@ -1,107 +1,8 @@
-//! The exports' declarations, and a call of one on the memory that is lent.
+//! A call of an export on the memory that is lent.
 
 use crate::bytes::broken;
 use crate::bytes::call::{Ask, Call, Element};
 use crate::bytes::memory::{Lent, Memory};
-
-mod linked {
-    extern "C" {
-        pub fn capi_parameter_jacobian(
-            wiring: *const u8,
-            wiring_length: usize,
-            readings: *const u8,
-            readings_length: usize,
-            term_index: *const u8,
-            term_index_length: usize,
-            term_coefficient: *const u8,
-            term_coefficient_length: usize,
-            solution: *const u8,
-            solution_length: usize,
-            parameter: u32,
-            column: u32,
-            sheet: *mut u8,
-            sheet_length: usize,
-        ) -> u64;
-        pub fn capi_operand_selector(
-            wiring: *const u8,
-            wiring_length: usize,
-            readings: *const u8,
-            readings_length: usize,
-            term_index: *const u8,
-            term_index_length: usize,
-            term_coefficient: *const u8,
-            term_coefficient_length: usize,
-            operand: u32,
-            sign: *mut u8,
-            sign_length: usize,
-            counts: *mut u8,
-            counts_length: usize,
-            rows: *mut u8,
-            rows_length: usize,
-            weights: *mut u8,
-            weights_length: usize,
-        ) -> u64;
-        pub fn capi_contraction_first(
-            wiring: *const u8,
-            wiring_length: usize,
-            readings: *const u8,
-            readings_length: usize,
-            term_index: *const u8,
-            term_index_length: usize,
-            term_coefficient: *const u8,
-            term_coefficient_length: usize,
-            mode: u32,
-            sign: f64,
-            entries: u32,
-            rows: *const u8,
-            rows_length: usize,
-            weights: *const u8,
-            weights_length: usize,
-            selection: *mut u8,
-            selection_length: usize,
-        ) -> u64;
-        pub fn capi_right_side(
-            mode: u32,
-            count: usize,
-            parameter: *const u8,
-            parameter_length: usize,
-            selection: *const u8,
-            selection_length: usize,
-            sheet: *mut u8,
-            sheet_length: usize,
-        ) -> usize;
-        pub fn capi_contraction_third(
-            wiring: *const u8,
-            wiring_length: usize,
-            readings: *const u8,
-            readings_length: usize,
-            term_index: *const u8,
-            term_index_length: usize,
-            term_coefficient: *const u8,
-            term_coefficient_length: usize,
-            mode: u32,
-            sign: f64,
-            entries: u32,
-            rows: *const u8,
-            rows_length: usize,
-            weights: *const u8,
-            weights_length: usize,
-            parameter: *const u8,
-            parameter_length: usize,
-            solved: *const u8,
-            solved_length: usize,
-            out: *mut u8,
-            out_length: usize,
-        ) -> u64;
-        pub fn capi_served_unit_scale(
-            operand: u32,
-            parameter: u32,
-            base: f64,
-            out: *mut u8,
-            out_length: usize,
-        ) -> u64;
-    }
-}
 
 /// Calls an export on the network that is lent and further arguments.
 macro_rules! on_network {
@@ -109,7 +10,7 @@ macro_rules! on_network {
         let [wiring, readings, term_index, term_coefficient] = $memory.network();
         // The memory behind each slice is a slot's, alive and of that length.
         unsafe {
-            linked::$export(
+            exports::$export(
                 wiring.at,
                 wiring.length,
                 readings.at,
@@ -154,7 +55,7 @@ pub fn call(memory: &mut Memory, ask: &Ask) -> u64 {
         Call::Third { element, .. } => broken::sign(element, sheet, third(memory, element)),
         Call::UnitScale { operand, parameter, base } => {
             let answer = unsafe {
-                linked::capi_served_unit_scale(*operand, *parameter, *base, sheet.at, sheet.length)
+                exports::capi_served_unit_scale(*operand, *parameter, *base, sheet.at, sheet.length)
             };
             broken::count(answer)
         }
@@ -168,7 +69,7 @@ unsafe fn capi_right_side(
     selection: Lent,
     sheet: Lent,
 ) -> usize {
-    linked::capi_right_side(
+    exports::capi_right_side(
         mode,
         count,
         parameter.at,

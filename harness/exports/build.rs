@@ -34,7 +34,8 @@ fn main() {
         let library = dir.join(format!("lib{}.a", name));
         println!("cargo:rerun-if-changed={}", library.display());
         if library.exists() {
-            println!("cargo:rustc-link-lib=static={}", name);
+            // Not bundled: each program links the libraries themselves.
+            println!("cargo:rustc-link-lib=static:-bundle={}", name);
         } else {
             // Without this line the linker's list of missing exports would be all there is.
             println!(

@@ -109,8 +109,10 @@ impl Memory {
         let sheets = self.sheets.iter().zip(ask.export().sheets()).enumerate();
         for (place, (sheet, &(name, size))) in sheets {
             let mut front = due.fronts.get(place).cloned().unwrap_or_default();
-            if ask.export() == Export::ParameterJacobian {
-                settle(&mut front, sheet.bytes());
+            match ask.export() {
+                Export::ParameterJacobian => settle(&mut front, sheet.bytes(), same),
+                Export::RightSide => settle(&mut front, sheet.bytes(), both_nan),
+                _ => {}
             }
             let found = sheet.difference(name, size, &front, &self.pool);
             if found.is_some() {
@@ -137,12 +139,17 @@ fn lend(slot: &Slot) -> Lent {
     Lent { at: slot.start(), length: slot.length() }
 }
 
-/// Takes words that are due to be the same but for the sign of a zero as they came.
-fn settle(front: &mut [u8], got: &[u8]) {
+/// Takes words that are as good as those that are due as they came.
+fn settle(front: &mut [u8], got: &[u8], as_good: fn(f64, f64) -> bool) {
     for (place, x) in doubles(front).into_iter().enumerate() {
         let came = double(got, place);
-        if same(x, came) {
+        if as_good(x, came) {
             set_bits(front, place, came.to_bits());
         }
     }
+}
+
+/// A sheet's NaN comes back from bytes as any NaN.
+fn both_nan(due: f64, got: f64) -> bool {
+    due.is_nan() && got.is_nan()
 }

@@ -4,32 +4,9 @@
 use crate::case::{ByteLists, Case, WordLists};
 use crate::timing::{side_by_side, Times};
 use crate::{Form, Table};
+use exports::{capi_change, site_change, site_run_changes};
 use oracle::{Differentiable, Oracle, Solved, Triplets};
 use std::hint::black_box;
-
-extern "C" {
-    #[rustfmt::skip]
-    fn capi_change(
-        w: *const u8, wl: usize, r: *mut u8, rl: usize, ti: *const u8, til: usize, tc: *const u8, tcl: usize,
-        s: *const u8, sl: usize,
-        rows: *mut u8, rowsl: usize, cols: *mut u8, colsl: usize, values: *mut u8, valuesl: usize,
-        head: u32, low: u32, high: u32,
-    ) -> u64;
-    #[rustfmt::skip]
-    fn site_change(
-        w: *const u32, wl: usize, r: *mut f64, rl: usize, ti: *const u32, til: usize, tc: *const f64, tcl: usize,
-        s: *const f64, sl: usize,
-        rows: *mut u32, rowsl: usize, cols: *mut u32, colsl: usize, values: *mut f64, valuesl: usize,
-        head: u32, low: u32, high: u32,
-    ) -> u64;
-    #[rustfmt::skip]
-    fn site_run_changes(
-        w: *const u32, wl: usize, r: *mut f64, rl: usize, ti: *const u32, til: usize, tc: *const f64, tcl: usize,
-        s: *const f64, sl: usize,
-        rows: *mut u32, rowsl: usize, cols: *mut u32, colsl: usize, values: *mut f64, valuesl: usize,
-        changes: *const u32, changesl: usize, numbers: *mut u32, numbersl: usize, counted: *mut u32, countedl: usize,
-    ) -> u32;
-}
 
 /// Changes of a run, an even number of them: the next run then begins where the first did.
 const RUN: usize = 16;

@@ -11,32 +11,11 @@
 use crate::case::{hold, on, solution, Case};
 use crate::timing::{alone, side_by_side_less, Times};
 use crate::{Form, Table};
+use exports::{sens_contraction_first, sens_contraction_third, sens_right_side};
 use oracle::{forward_adjoint, Mode, Operand, Parameter, Power, Selector};
 use std::cell::{Cell, RefCell};
 use std::hint::black_box;
 use std::time::{Duration, Instant};
-
-extern "C" {
-    #[rustfmt::skip]
-    fn sens_contraction_first(
-        w: *const u32, wl: usize, r: *const f64, rl: usize, ti: *const u32, til: usize, tc: *const f64, tcl: usize,
-        mode: u32, sign: f64, counts: *const u32, countsl: usize, rows: *const u32, rowsl: usize,
-        weights: *const f64, weightsl: usize, columns: usize, selection: *mut f64, selectionl: usize,
-        count: *mut usize,
-    ) -> u32;
-    #[rustfmt::skip]
-    fn sens_right_side(
-        mode: u32, count: usize, parameter: *const f64, parameterl: usize, selection: *const f64, selectionl: usize,
-        out: *mut f64, outl: usize,
-    ) -> usize;
-    #[rustfmt::skip]
-    fn sens_contraction_third(
-        w: *const u32, wl: usize, r: *const f64, rl: usize, ti: *const u32, til: usize, tc: *const f64, tcl: usize,
-        mode: u32, sign: f64, counts: *const u32, countsl: usize, rows: *const u32, rowsl: usize,
-        weights: *const f64, weightsl: usize, columns: usize, parameter: *const f64, parameterl: usize,
-        solved: *const f64, solvedl: usize, out: *mut f64, outl: usize, count: *mut usize,
-    ) -> u32;
-}
 
 /// The columns of a network's demands and the selector of its prices, as many as it has buses.
 struct Contraction<'a> {

@@ -4,38 +4,9 @@
 use crate::case::{doubles, hold, on, ByteLists, Case, WordLists};
 use crate::timing::{side_by_side, side_by_side_but, Times};
 use crate::{Form, Table};
+use exports::{capi_kkt_triplets, capi_nu_flow_values, capi_snap, capi_snap_linear, sens_kkt_triplets};
 use oracle::Differentiable;
 use std::hint::black_box;
-
-extern "C" {
-    #[rustfmt::skip]
-    fn capi_snap(
-        w: *const u8, wl: usize, r: *const u8, rl: usize, ti: *const u8, til: usize, tc: *const u8, tcl: usize,
-        s: *const u8, sl: usize, out: *mut u8, outl: usize,
-    ) -> u64;
-    #[rustfmt::skip]
-    fn capi_snap_linear(
-        w: *const u8, wl: usize, r: *const u8, rl: usize, ti: *const u8, til: usize, tc: *const u8, tcl: usize,
-        s: *const u8, sl: usize, out: *mut u8, outl: usize,
-    ) -> u64;
-    #[rustfmt::skip]
-    fn capi_nu_flow_values(
-        w: *const u8, wl: usize, r: *const u8, rl: usize, ti: *const u8, til: usize, tc: *const u8, tcl: usize,
-        s: *const u8, sl: usize, out: *mut u8, outl: usize,
-    ) -> u64;
-    #[rustfmt::skip]
-    fn capi_kkt_triplets(
-        w: *const u8, wl: usize, r: *const u8, rl: usize, ti: *const u8, til: usize, tc: *const u8, tcl: usize,
-        s: *const u8, sl: usize,
-        rows: *mut u8, rowsl: usize, cols: *mut u8, colsl: usize, values: *mut u8, valuesl: usize,
-    ) -> u64;
-    #[rustfmt::skip]
-    fn sens_kkt_triplets(
-        w: *const u32, wl: usize, r: *const f64, rl: usize, ti: *const u32, til: usize, tc: *const f64, tcl: usize,
-        s: *const f64, sl: usize,
-        rows: *mut u32, rowsl: usize, cols: *mut u32, colsl: usize, values: *mut f64, valuesl: usize,
-    ) -> u64;
-}
 
 fn snap(case: &Case) -> Times {
     let (s, mut out) = (&case.sheet_bytes, vec![0u8; case.sheet_bytes.len()]);

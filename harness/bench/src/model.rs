@@ -3,60 +3,13 @@
 use crate::case::{double_bytes, doubles, hold, on, solution, ByteLists, Case};
 use crate::timing::{alone, side_by_side, Times};
 use crate::{Form, Table};
+use exports::{
+    capi_current_fixed_withdrawal, capi_current_flow_offset, capi_evaluate, capi_generator_cost,
+    capi_network_number, capi_network_withdrawal, capi_phase_withdrawal, capi_row_kind, capi_shed_cap,
+    capi_susceptance_coo,
+};
 use oracle::Oracle;
 use std::hint::black_box;
-
-extern "C" {
-    #[rustfmt::skip]
-    fn capi_network_number(
-        w: *const u8, wl: usize, r: *const u8, rl: usize, ti: *const u8, til: usize, tc: *const u8, tcl: usize,
-    ) -> u64;
-    #[rustfmt::skip]
-    fn capi_shed_cap(
-        w: *const u8, wl: usize, r: *const u8, rl: usize, ti: *const u8, til: usize, tc: *const u8, tcl: usize,
-        bus: usize, out: *mut u8, outl: usize,
-    ) -> u64;
-    #[rustfmt::skip]
-    fn capi_current_flow_offset(
-        w: *const u8, wl: usize, r: *const u8, rl: usize, ti: *const u8, til: usize, tc: *const u8, tcl: usize,
-        branch: usize, out: *mut u8, outl: usize,
-    ) -> u64;
-    #[rustfmt::skip]
-    fn capi_generator_cost(
-        w: *const u8, wl: usize, r: *const u8, rl: usize, ti: *const u8, til: usize, tc: *const u8, tcl: usize,
-        generator: usize, power: u64, out: *mut u8, outl: usize,
-    ) -> u64;
-    #[rustfmt::skip]
-    fn capi_evaluate(
-        w: *const u8, wl: usize, r: *const u8, rl: usize, ti: *const u8, til: usize, tc: *const u8, tcl: usize,
-        row: usize, f: *const u8, fl: usize, pg: *const u8, pgl: usize, out: *mut u8, outl: usize,
-    ) -> u64;
-    #[rustfmt::skip]
-    fn capi_row_kind(
-        w: *const u8, wl: usize, r: *const u8, rl: usize, ti: *const u8, til: usize, tc: *const u8, tcl: usize,
-        row: usize,
-    ) -> u64;
-    #[rustfmt::skip]
-    fn capi_phase_withdrawal(
-        w: *const u8, wl: usize, r: *const u8, rl: usize, ti: *const u8, til: usize, tc: *const u8, tcl: usize,
-        out: *mut u8, outl: usize,
-    ) -> u64;
-    #[rustfmt::skip]
-    fn capi_network_withdrawal(
-        w: *const u8, wl: usize, r: *const u8, rl: usize, ti: *const u8, til: usize, tc: *const u8, tcl: usize,
-        out: *mut u8, outl: usize,
-    ) -> u64;
-    #[rustfmt::skip]
-    fn capi_current_fixed_withdrawal(
-        w: *const u8, wl: usize, r: *const u8, rl: usize, ti: *const u8, til: usize, tc: *const u8, tcl: usize,
-        out: *mut u8, outl: usize,
-    ) -> u64;
-    #[rustfmt::skip]
-    fn capi_susceptance_coo(
-        w: *const u8, wl: usize, r: *const u8, rl: usize, ti: *const u8, til: usize, tc: *const u8, tcl: usize,
-        rows: *mut u8, rowsl: usize, cols: *mut u8, colsl: usize, values: *mut u8, valuesl: usize,
-    ) -> u64;
-}
 
 /// A power that generators' costs are asked at.
 const POWER: f64 = 1.25;

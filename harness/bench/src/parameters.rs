@@ -3,16 +3,9 @@
 use crate::case::{hold, on, Case};
 use crate::timing::{side_by_side, Times};
 use crate::{Form, Table};
+use exports::sens_parameter_jacobian;
 use oracle::{CostTerm, Differentiable, Parameter, Power, GB};
 use std::hint::black_box;
-
-extern "C" {
-    #[rustfmt::skip]
-    fn sens_parameter_jacobian(
-        w: *const u32, wl: usize, r: *const f64, rl: usize, ti: *const u32, til: usize, tc: *const f64, tcl: usize,
-        s: *const f64, sl: usize, parameter: u32, columns: *const u32, columnsl: usize, sheet: *mut f64, sheetl: usize,
-    ) -> u32;
-}
 
 /// The served parameters with their numbers.
 const SERVED: [(&str, u32, Parameter); 7] = [

@@ -4,35 +4,9 @@
 use crate::case::{double_bytes, doubles, hold, on, solution, words, ByteLists, Case, WordLists};
 use crate::timing::{side_by_side, side_by_side_but, Times};
 use crate::{Form, Table};
+use exports::{capi_assemble_opf, capi_nodal_marginal_values, capi_read_dc_solution, problem_assemble_opf};
 use oracle::Assembly;
 use std::hint::black_box;
-
-extern "C" {
-    #[rustfmt::skip]
-    fn capi_assemble_opf(
-        w: *const u8, wl: usize, r: *const u8, rl: usize, ti: *const u8, til: usize, tc: *const u8, tcl: usize,
-        pr: *mut u8, prl: usize, pc: *mut u8, pcl: usize, pv: *mut u8, pvl: usize,
-        ar: *mut u8, arl: usize, ac: *mut u8, acl: usize, av: *mut u8, avl: usize,
-        q: *mut u8, ql: usize, b: *mut u8, bl: usize, cones: *mut u8, conesl: usize,
-    ) -> u64;
-    #[rustfmt::skip]
-    fn problem_assemble_opf(
-        w: *const u32, wl: usize, r: *const f64, rl: usize, ti: *const u32, til: usize, tc: *const f64, tcl: usize,
-        pr: *mut u32, prl: usize, pc: *mut u32, pcl: usize, pv: *mut f64, pvl: usize,
-        ar: *mut u32, arl: usize, ac: *mut u32, acl: usize, av: *mut f64, avl: usize,
-        q: *mut f64, ql: usize, b: *mut f64, bl: usize, cones: *mut u32, conesl: usize,
-    ) -> u64;
-    #[rustfmt::skip]
-    fn capi_read_dc_solution(
-        w: *const u8, wl: usize, r: *const u8, rl: usize, ti: *const u8, til: usize, tc: *const u8, tcl: usize,
-        x: *const u8, xl: usize, z: *const u8, zl: usize, objective: u64, out: *mut u8, outl: usize,
-    ) -> u64;
-    #[rustfmt::skip]
-    fn capi_nodal_marginal_values(
-        w: *const u8, wl: usize, r: *const u8, rl: usize, ti: *const u8, til: usize, tc: *const u8, tcl: usize,
-        s: *const u8, sl: usize, out: *mut u8, outl: usize,
-    ) -> u64;
-}
 
 const OBJECTIVE: f64 = 12.5;
 

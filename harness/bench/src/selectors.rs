@@ -3,21 +3,9 @@
 use crate::case::{hold, on, Case};
 use crate::timing::{side_by_side, Times};
 use crate::{Form, Table};
+use exports::{sens_operand_selector, sens_served_unit_scale};
 use oracle::{served_unit_scale, Differentiable, End, Operand, Parameter, Power, VoltageKind};
 use std::hint::black_box;
-
-extern "C" {
-    #[rustfmt::skip]
-    fn sens_operand_selector(
-        w: *const u32, wl: usize, r: *const f64, rl: usize, ti: *const u32, til: usize, tc: *const f64, tcl: usize,
-        operand: u32, sign: *mut f64, signl: usize, counts: *mut u32, countsl: usize, rows: *mut u32, rowsl: usize,
-        weights: *mut f64, weightsl: usize, count: *mut usize,
-    ) -> u32;
-    #[rustfmt::skip]
-    fn sens_served_unit_scale(
-        operand: u32, parameter: u32, base: f64, out: *mut f64, outl: usize, count: *mut usize,
-    ) -> u32;
-}
 
 /// The served operands with their numbers.
 const SERVED: [(&str, u32, Operand); 4] = [

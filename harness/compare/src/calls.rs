@@ -15,6 +15,7 @@ use crate::programs;
 use crate::random::Rng;
 use crate::report::{Coverage, Mismatch};
 use crate::solutions;
+use crate::table::EXPORTS;
 
 /// A network as lent, with the paper's reading of it; the original Rust answers for it
 /// where it is accepted.
@@ -645,6 +646,15 @@ impl Op {
     /// Whether the call takes or makes the program.
     pub fn programmed(&self) -> bool {
         self.sheets.len() == 9 || self.lists.iter().any(|list| list.1.is_raw())
+    }
+
+    /// The export as it is linked.
+    pub fn export(&self) -> &'static str {
+        if self.typed() {
+            return "problem_assemble_opf";
+        }
+        let own = |export: &str| export.strip_prefix("capi_") == Some(self.name);
+        EXPORTS.iter().find(|export| own(export)).expect("each call has its export")
     }
 
     /// Whether the call takes typed slices, which have whole words.

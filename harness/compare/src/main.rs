@@ -2,6 +2,7 @@
 //! number table, on generated networks, good and damaged.
 
 mod abi;
+mod bytes;
 mod calls;
 mod damage;
 mod generate;
@@ -22,6 +23,7 @@ mod shrink;
 mod slot;
 mod solutions;
 mod states;
+mod table;
 #[cfg(target_os = "linux")]
 mod watch;
 
@@ -29,6 +31,7 @@ use std::process::ExitCode;
 use std::time::{Duration, Instant};
 
 use abi::Memory;
+use bytes::Bytes;
 use calls::{check, Args, Lend, Op, Site, OPS};
 use damage::{Damage, Place};
 use marks::mark_network;
@@ -38,6 +41,7 @@ use random::Rng;
 use report::{call_rows, print_rows, CallTally, Coverage, Mismatch, FLOOR, SHEET_FLOOR};
 use runs::Runs;
 use sensitivity::Sensitivity;
+use table::{Cases, Table};
 
 const HELP: &str = "\
 compare: runs the exports beside the original Rust on generated networks
@@ -45,10 +49,13 @@ compare: runs the exports beside the original Rust on generated networks
   --cases N     at least N good and N damaged networks, and half as many good ones on which
                 only the calls with a solution sheet and those on the program run, near the
                 thresholds of snapping, and a sixth as many runs of site changes (200000);
-                of a quarter of the networks columns of the parameters are asked, and on
-                nearly a fifth selectors, contractions and unit scales
+                of a quarter of the networks columns of the parameters are asked, on nearly a
+                fifth selectors, contractions and unit scales, and on a seventh the same
+                calls on bytes
   --seconds N   stop after N seconds, which is a failure before --cases is reached (240)
-  --seed S      another seed gives other networks (1)
+  --long        no time bound, and five times as many networks unless --cases says how many;
+                fewer than 2000000 cases over all calls are a failure
+  --seed N      another seed gives other networks (1)
   --quick       neither the time bound nor the coverage floors count as failures
   --record N FILE
                 compares nothing, but writes N small networks with solution sheets and the
@@ -60,11 +67,21 @@ compare: runs the exports beside the original Rust on generated networks
                 compares no exports, but what the program sitechange, built as FILE, prints
   --help        this text
 
-Prints what was covered and one summary line. Exit code 0 if every call did what it must.";
+Prints what was covered, and a table with a row for each exported call: whether it takes bytes
+or words, the cases run, those of them that were refused (of a right side: that were empty), and
+the mismatches; then the seed and one summary line. A case is one call with every lent byte
+checked. Exit code 0 if every call did what it must, 1 if not, 2 if a call was never compared.";
+
+/// Networks of either kind, unless the options say how many, and so many times more in a long run.
+const NETWORKS: u64 = 200_000;
+const LONGER: u64 = 5;
+/// The fewest cases over all calls of a long run.
+const LONG_CASES: u64 = 2_000_000;
 
 struct Options {
     cases: u64,
-    seconds: u64,
+    /// No bound in a long run.
+    seconds: Option<u64>,
     seed: u64,
     quick: bool,
     record: Option<(u64, String)>,
@@ -73,9 +90,10 @@ struct Options {
 }
 
 fn options() -> Result<Option<Options>, String> {
+    let (mut cases, mut seconds, mut long) = (None, 240, false);
     let mut options = Options {
-        cases: 200_000,
-        seconds: 240,
+        cases: 0,
+        seconds: None,
         seed: 1,
         quick: false,
         record: None,
@@ -89,8 +107,9 @@ fn options() -> Result<Option<Options>, String> {
             word.parse().map_err(|_| format!("{} is not a number", word))
         };
         match option.as_str() {
-            "--cases" => options.cases = number()?,
-            "--seconds" => options.seconds = number()?,
+            "--cases" => cases = Some(number()?),
+            "--seconds" => seconds = number()?,
+            "--long" => long = true,
             "--seed" => options.seed = number()?,
             "--quick" => options.quick = true,
             "--record" | "--record-opf" => {
@@ -106,6 +125,8 @@ fn options() -> Result<Option<Options>, String> {
             _ => return Err(format!("unknown option {}", option)),
         }
     }
+    options.cases = cases.unwrap_or(if long { LONGER * NETWORKS } else { NETWORKS });
+    options.seconds = (!long).then_some(seconds);
     Ok(Some(options))
 }
 
@@ -133,6 +154,7 @@ struct Run {
     runs: Runs,
     parameters: Parameters,
     sensitivity: Sensitivity,
+    bytes: Bytes,
 }
 
 impl Run {
@@ -156,16 +178,24 @@ impl Run {
             runs: Runs::new(),
             parameters: Parameters::new(),
             sensitivity: Sensitivity::new(),
+            bytes: Bytes::new(),
         }
     }
 
-    fn calls(&self) -> u64 {
-        self.tallies.iter().map(|tally| tally.calls).sum()
+    fn table(&self) -> Table {
+        let ops = OPS.iter().zip(&self.tallies).enumerate();
+        let ops = ops.map(|(place, (op, tally))| {
+            let refused = tally.calls - self.cover.accepted(place);
+            (op.export(), Cases { run: tally.calls, refused, mismatches: tally.mismatches })
+        });
+        let others = self.runs.cases().chain([self.parameters.cases()]);
+        Table::new(ops.chain(others).chain(self.sensitivity.cases()).chain(self.bytes.cases()))
     }
 
     fn mismatches(&self) -> u64 {
         let calls: u64 = self.tallies.iter().map(|tally| tally.mismatches).sum();
-        calls + self.runs.mismatches + self.parameters.mismatches + self.sensitivity.mismatches
+        let columns = self.parameters.mismatches + self.sensitivity.mismatches();
+        calls + self.runs.mismatches + columns + self.bytes.mismatches()
     }
 
     fn one_good(&mut self, serial: u64) {
@@ -236,12 +266,13 @@ impl Run {
         self.derivatives(&site, case);
     }
 
-    /// Columns of the parameters, and what is made of such columns, each on a share of the
-    /// networks.
+    /// Columns of the parameters, what is made of such columns, and both on bytes, each on a share
+    /// of the networks.
     fn derivatives(&mut self, site: &Site, case: u64) {
         let origin = self.origin(case);
         self.parameters.visit(site, self.seed, case, &origin);
         self.sensitivity.visit(site, self.seed, case, &origin);
+        self.bytes.visit(site, self.seed, case, &origin);
     }
 
     /// A run of site changes.
@@ -335,6 +366,7 @@ impl Run {
             }
             self.parameters.fixed(&site, solution, self.seed);
             self.sensitivity.fixed(&site, solution, self.seed);
+            self.bytes.fixed(&site, solution, self.seed);
             for (place, _) in OPS.iter().enumerate().filter(|(_, op)| op.sheets.len() == 9) {
                 for one in 0..programs::OUTPUTS {
                     for lends in [programs::one_short(one, 0), programs::one_short(one, 3)] {
@@ -344,18 +376,19 @@ impl Run {
                 }
             }
         }
+        self.bytes.greatest(self.seed);
         self.runs.bench();
     }
 }
 
 /// Runs to the end, the time bound, or a while after the first mismatch.
 fn run(options: &Options, run: &mut Run) -> bool {
-    let until = Instant::now() + Duration::from_secs(options.seconds);
+    let until = options.seconds.map(|seconds| Instant::now() + Duration::from_secs(seconds));
     run.fixed();
     let mut serial = 0;
     let mut last = u64::MAX;
     while run.good < options.cases || run.damaged < options.cases {
-        if Instant::now() >= until {
+        if until.map_or(false, |until| Instant::now() >= until) {
             return false;
         }
         if serial >= last {
@@ -377,15 +410,25 @@ fn run(options: &Options, run: &mut Run) -> bool {
     true
 }
 
-fn compare(options: &Options) -> bool {
+/// What a run comes to.
+enum Outcome {
+    Passed,
+    Failed,
+    /// Calls that no case was of.
+    NeverCompared(Vec<&'static str>),
+}
+
+fn compare(options: &Options) -> Outcome {
     #[cfg(target_os = "linux")]
-    watch::start(options.seconds.saturating_add(30).min(1 << 30) as u32);
+    watch::start(
+        options.seconds.map_or(0, |seconds| seconds.saturating_add(30).min(1 << 30) as u32),
+    );
     let start = Instant::now();
     let mut tally = Run::new(options.seed);
     let in_time = run(options, &mut tally);
     let time = start.elapsed();
     let low = tally.cover.print(&tally.damages) + tally.runs.print() + tally.parameters.print();
-    let low = low + tally.sensitivity.print(options.cases);
+    let low = low + tally.sensitivity.print(options.cases) + tally.bytes.print();
     let low = low + print_rows(&call_rows(&tally.tallies, options.cases));
     if let Some(mismatch) = tally.smallest.take() {
         shrink::shrink(mismatch, &mut tally.memory, options.seed).print();
@@ -397,14 +440,6 @@ fn compare(options: &Options) -> bool {
             low, FLOOR, SHEET_FLOOR
         );
     }
-    if !in_time {
-        println!("stopped by the time bound of {} seconds", options.seconds);
-    }
-    println!(
-        "time: {:.1} s, {:.2} us a call with its check",
-        time.as_secs_f64(),
-        time.as_secs_f64() * 1e6 / tally.calls().max(1) as f64
-    );
     println!(
         "solution sheets: on {} accepted networks, of which {} near the thresholds and {} of \
          these with all counts at their limits; on {} damaged ones",
@@ -414,36 +449,40 @@ fn compare(options: &Options) -> bool {
         tally.damaged_sheets
     );
     println!("runs of changes: {}, {} changes", tally.runs.count(), tally.runs.calls());
-    let (accepted, damaged) = tally.parameters.networks();
-    println!(
-        "parameter columns: {} accepted and {} damaged networks, {} calls, {} mismatches",
-        accepted,
-        damaged,
-        tally.parameters.calls(),
-        tally.parameters.mismatches
-    );
-    let (accepted, damaged) = tally.sensitivity.networks();
-    let calls = tally.sensitivity.calls().map(|(name, calls)| format!("{} {}", name, calls));
-    println!(
-        "sensitivity: {} accepted and {} damaged networks, calls: {}, {} mismatches",
-        accepted,
-        damaged,
-        calls.join(", "),
-        tally.sensitivity.mismatches
-    );
-    for (op, tally) in OPS.iter().zip(&tally.tallies).filter(|(op, _)| op.programmed()) {
-        let CallTally { calls, mismatches, networks } = tally;
-        println!(
-            "{}: {} accepted networks, {} calls, {} mismatches",
-            op.name, networks, calls, mismatches
-        );
+    let networks = [
+        ("parameter columns", tally.parameters.networks()),
+        ("sensitivity", tally.sensitivity.networks()),
+        ("on bytes", tally.bytes.networks()),
+    ];
+    for (what, (accepted, damaged)) in networks {
+        println!("{}: {} accepted and {} damaged networks", what, accepted, damaged);
     }
-    let (calls, mismatches) = (tally.calls(), tally.mismatches());
+    let table = tally.table();
+    let Cases { run: cases, mismatches, .. } = table.total();
+    table.print(options.seed);
     println!(
-        "compare: {} good and {} damaged networks, {} calls, {} mismatches",
-        tally.good, tally.damaged, calls, mismatches
+        "time: {:.1} s, {:.2} us a case with its check",
+        time.as_secs_f64(),
+        time.as_secs_f64() * 1e6 / cases.max(1) as f64
     );
-    mismatches == 0 && (options.quick || (low == 0 && in_time))
+    let enough = options.seconds.is_some() || cases >= LONG_CASES;
+    if !enough {
+        println!("a long run has at least {} cases", LONG_CASES);
+    }
+    if let Some(seconds) = options.seconds.filter(|_| !in_time) {
+        println!("stopped by the time bound of {} seconds", seconds);
+    }
+    println!(
+        "compare: {} good and {} damaged networks, {} cases, {} mismatches",
+        tally.good, tally.damaged, cases, mismatches
+    );
+    let passed = enough && (options.quick || (low == 0 && in_time));
+    match table.never_compared() {
+        _ if mismatches > 0 => Outcome::Failed,
+        never if !never.is_empty() => Outcome::NeverCompared(never),
+        _ if passed => Outcome::Passed,
+        _ => Outcome::Failed,
+    }
 }
 
 fn main() -> ExitCode {
@@ -487,9 +526,12 @@ fn main() -> ExitCode {
             }
         };
     }
-    if compare(&options) {
-        ExitCode::SUCCESS
-    } else {
-        ExitCode::FAILURE
+    match compare(&options) {
+        Outcome::Passed => ExitCode::SUCCESS,
+        Outcome::Failed => ExitCode::FAILURE,
+        Outcome::NeverCompared(calls) => {
+            println!("compare: never compared: {}", calls.join(", "));
+            ExitCode::from(2)
+        }
     }
 }

@@ -205,6 +205,8 @@ macro_rules! export {
     };
 }
 
+#[path = "mock_bytes.rs"]
+mod bytes;
 #[path = "mock_parameters.rs"]
 mod parameters;
 #[path = "mock_program.rs"]

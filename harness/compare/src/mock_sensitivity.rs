@@ -7,14 +7,14 @@ use super::{bad, f64s, u32s, Pointer, Site};
 use oracle::{Bound, CostTerm, End, Operand, Parameter, Power, TapKind, VoltageKind, GB};
 
 /// Where the blocks that operands read start, and the rows in all: from lengths that agree.
-struct Rows {
+pub struct Rows {
     pg: usize,
     f: usize,
     nu_bal: usize,
-    dim: usize,
+    pub dim: usize,
 }
 
-fn rows_of(lent: [&[u8]; 4]) -> Rows {
+pub fn rows_of(lent: [&[u8]; 4]) -> Rows {
     let (w, r) = (u32s(lent[0]).unwrap_or_default(), f64s(lent[1]).unwrap_or_default());
     let c: Vec<usize> = w[..7].iter().map(|&count| count as usize).collect();
     let (n, m, k, q) = (c[0], c[1], c[2], c[5]);

@@ -501,7 +501,7 @@ pub fn call_rows(tallies: &[CallTally], networks: u64) -> Vec<Row> {
         name: op.name.to_string(),
         hits: tally.networks,
         paired: None,
-        note: format!("{} calls, {} mismatches", tally.calls, tally.mismatches),
+        note: String::new(),
         floor: if op.programmed() { networks } else { 0 },
     };
     OPS.iter().zip(tallies).map(of_call).collect()

@@ -30,7 +30,7 @@ pub fn short(rng: &mut Rng, words: usize) -> usize {
 }
 
 /// A number of a parameter that isn't served.
-fn unserved(rng: &mut Rng) -> u32 {
+pub fn unserved(rng: &mut Rng) -> u32 {
     let served = rng.pick(&SERVED).0;
     match rng.below(10) {
         0..=5 => rng.pick(&[1, 5, 7, 8, 9, 10, 11, 12, 13, 14, 15, 16]),
@@ -42,7 +42,7 @@ fn unserved(rng: &mut Rng) -> u32 {
 }
 
 /// A column that a list of this length doesn't have.
-fn outside(rng: &mut Rng, length: usize) -> u32 {
+pub fn outside(rng: &mut Rng, length: usize) -> u32 {
     let length = length as u32;
     let within = rng.below(length.max(1) as usize) as u32;
     match rng.below(10) {

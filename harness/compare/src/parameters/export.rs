@@ -1,5 +1,4 @@
-//! The export for parameter columns: its declaration, and a call on memory whose every byte is
-//! watched.
+//! The export for parameter columns, on memory whose every byte is watched.
 
 use crate::abi::{GUARD, SLOT};
 use crate::calls::{same, Site};
@@ -10,28 +9,6 @@ use crate::slot::Slot;
 
 #[cfg(target_os = "linux")]
 use crate::watch;
-
-mod linked {
-    extern "C" {
-        pub fn sens_parameter_jacobian(
-            wiring: *const u32,
-            wiring_length: usize,
-            readings: *const f64,
-            readings_length: usize,
-            term_index: *const u32,
-            term_index_length: usize,
-            term_coefficient: *const f64,
-            term_coefficient_length: usize,
-            solution: *const f64,
-            solution_length: usize,
-            parameter: u32,
-            columns: *const u32,
-            columns_length: usize,
-            sheet: *mut f64,
-            sheet_length: usize,
-        ) -> u32;
-    }
-}
 
 pub const NAME: &str = "parameter_jacobian";
 
@@ -94,7 +71,7 @@ impl Memory {
         let sheet = unsafe { self.sheet.start().add(GUARD) };
         // The memory behind each slice is a slot's, alive, aligned and of that length.
         let answer = unsafe {
-            linked::sens_parameter_jacobian(
+            exports::sens_parameter_jacobian(
                 wiring.start() as _,
                 wiring.length() / 4,
                 readings.start() as _,

@@ -13,6 +13,7 @@ use crate::paper::{bytes_of_doubles, doubles, Held, Lent, SLICE_NAMES};
 use crate::random::Rng;
 use crate::report::{hex, print_rows};
 use crate::solutions;
+use crate::table::Cases;
 use export::Memory;
 use rules::PARAMETERS;
 use tally::Tally;
@@ -77,8 +78,10 @@ impl Parameters {
         Parameters { memory: Memory::new(), tally: Tally::new(), mismatches: 0, smallest: None }
     }
 
-    pub fn calls(&self) -> u64 {
-        self.tally.calls
+    /// What was done with the export.
+    pub fn cases(&self) -> (&'static str, Cases) {
+        let (run, refused) = (self.tally.calls, self.tally.refused());
+        ("sens_parameter_jacobian", Cases { run, refused, mismatches: self.mismatches })
     }
 
     /// Accepted and damaged networks of which columns were asked.
@@ -159,7 +162,7 @@ impl Parameters {
 
 /// The numbers that hold, and the words that are due at the sheet's front. The original refuses
 /// what the paper refuses as a kind or for a piecewise cost.
-fn expected(site: &Site, ask: &Ask, kkt: Option<&DcKkt>) -> (Held, Vec<f64>) {
+pub fn expected(site: &Site, ask: &Ask, kkt: Option<&DcKkt>) -> (Held, Vec<f64>) {
     let held = rules::held(site, ask);
     let number = held.lowest();
     let parameter = PARAMETERS.get(ask.parameter as usize).copied();

@@ -111,6 +111,10 @@ impl Tally {
         }
     }
 
+    pub fn refused(&self) -> u64 {
+        self.calls - self.answers[0]
+    }
+
     fn hit_if(&mut self, mark: ColumnMark, met: bool) {
         self.marks[mark as usize] += u64::from(met);
     }

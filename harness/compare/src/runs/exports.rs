@@ -1,100 +1,10 @@
-//! The exports of site changes and the typed matrix call: their declarations, and calls on the
-//! memory of a run.
+//! The exports of site changes and the typed matrix call, on the memory of a run.
 
 use crate::runs::memory::{Region, RunMemory};
 use crate::runs::table::Change;
 
 #[cfg(target_os = "linux")]
 use crate::watch;
-
-mod linked {
-    extern "C" {
-        pub fn capi_change(
-            wiring: *const u8,
-            wiring_length: usize,
-            readings: *mut u8,
-            readings_length: usize,
-            term_index: *const u8,
-            term_index_length: usize,
-            term_coefficient: *const u8,
-            term_coefficient_length: usize,
-            solution: *const u8,
-            solution_length: usize,
-            rows: *mut u8,
-            rows_length: usize,
-            cols: *mut u8,
-            cols_length: usize,
-            values: *mut u8,
-            values_length: usize,
-            head: u32,
-            low: u32,
-            high: u32,
-        ) -> u64;
-        pub fn site_change(
-            wiring: *const u32,
-            wiring_length: usize,
-            readings: *mut f64,
-            readings_length: usize,
-            term_index: *const u32,
-            term_index_length: usize,
-            term_coefficient: *const f64,
-            term_coefficient_length: usize,
-            solution: *const f64,
-            solution_length: usize,
-            rows: *mut u32,
-            rows_length: usize,
-            cols: *mut u32,
-            cols_length: usize,
-            values: *mut f64,
-            values_length: usize,
-            head: u32,
-            low: u32,
-            high: u32,
-        ) -> u64;
-        pub fn site_run_changes(
-            wiring: *const u32,
-            wiring_length: usize,
-            readings: *mut f64,
-            readings_length: usize,
-            term_index: *const u32,
-            term_index_length: usize,
-            term_coefficient: *const f64,
-            term_coefficient_length: usize,
-            solution: *const f64,
-            solution_length: usize,
-            rows: *mut u32,
-            rows_length: usize,
-            cols: *mut u32,
-            cols_length: usize,
-            values: *mut f64,
-            values_length: usize,
-            changes: *const u32,
-            changes_length: usize,
-            numbers: *mut u32,
-            numbers_length: usize,
-            counted: *mut u32,
-            counted_length: usize,
-        ) -> u32;
-        pub fn sens_kkt_triplets(
-            wiring: *const u32,
-            wiring_length: usize,
-            readings: *const f64,
-            readings_length: usize,
-            term_index: *const u32,
-            term_index_length: usize,
-            term_coefficient: *const f64,
-            term_coefficient_length: usize,
-            solution: *const f64,
-            solution_length: usize,
-            rows: *mut u32,
-            rows_length: usize,
-            cols: *mut u32,
-            cols_length: usize,
-            values: *mut f64,
-            values_length: usize,
-        ) -> u64;
-    }
-}
 
 /// How one change is called.
 #[derive(Clone, Copy, Debug, PartialEq, Eq)]
@@ -117,7 +27,7 @@ macro_rules! call {
         let [rows, cols, values] = $sheets;
         // The memory behind each slice is a region's, alive and of that length.
         unsafe {
-            linked::$export(
+            exports::$export(
                 wiring.start() as _,
                 wiring.length() / 4,
                 readings.start() as _,
@@ -151,7 +61,7 @@ fn by_bytes(memory: &RunMemory, change: Change, less: [usize; 5], more: [u8; 3])
     let [rows, cols, values] = &memory.sheets;
     // A region has at least as many canaries behind it as bytes are lent more.
     unsafe {
-        linked::capi_change(
+        exports::capi_change(
             wiring.start(),
             wiring.length() - less[0],
             readings.start(),

@@ -16,6 +16,7 @@ use crate::damage::Damage;
 use crate::paper::SLICE_NAMES;
 use crate::random::Rng;
 use crate::report::{hex, print_rows};
+use crate::table::Cases;
 use draw::Scenario;
 use memory::{RunMemory, SHEET_NAMES};
 use play::{play, Failure};
@@ -74,6 +75,11 @@ impl Runs {
         self.tally.calls
     }
 
+    /// What was done with each export.
+    pub fn cases(&self) -> impl Iterator<Item = (&'static str, Cases)> + '_ {
+        self.tally.cases()
+    }
+
     /// Draws a run and plays it.
     pub fn one(&mut self, rng: &mut Rng, serial: u64, damages: &[Damage], origin: &str) {
         self.play(draw::scenario(rng, serial, damages), origin);
@@ -87,6 +93,7 @@ impl Runs {
     fn play(&mut self, scenario: Scenario, origin: &str) {
         if let Err(failure) = play(&scenario, &mut self.memory, &mut self.tally) {
             self.mismatches += 1;
+            self.tally.missed();
             let size = scenario.size();
             if self.smallest.as_ref().map_or(true, |least| size < least.scenario.size()) {
                 self.smallest = Some(RunMismatch { scenario, failure, origin: origin.to_string() });

@@ -9,7 +9,7 @@ use crate::runs::exports::{self, Way};
 use crate::runs::marks::RunMark;
 use crate::runs::memory::{triplets, RunMemory, READINGS};
 use crate::runs::table::{self, Cell, Change};
-use crate::runs::tally::Tally;
+use crate::runs::tally::{Called, Tally};
 
 /// What a run did that it must not.
 #[derive(Clone, Debug)]
@@ -61,9 +61,9 @@ pub fn play(scenario: &Scenario, memory: &mut RunMemory, tally: &mut Tally) -> C
     let mut book = Book::new(scenario);
     memory.fill(scenario);
     tally.start(scenario, &book);
-    let first = matrix(scenario, memory, &book)?;
+    let first = matrix(scenario, memory, &book, tally)?;
     let log = steps(scenario, memory, &mut book, tally)?;
-    let last = matrix(scenario, memory, &book)?;
+    let last = matrix(scenario, memory, &book, tally)?;
     let list = triplets(&memory.sheets, log.count);
     if !log.accepted.is_empty() {
         hold_list("the sheets beside the matrix call", &last, &list)?;
@@ -78,13 +78,20 @@ pub fn play(scenario: &Scenario, memory: &mut RunMemory, tally: &mut Tally) -> C
 }
 
 /// The matrix call on the network as the memory holds it; no list where it is refused.
-fn matrix(scenario: &Scenario, memory: &mut RunMemory, book: &Book) -> Checked<Vec<Triplet>> {
+fn matrix(
+    scenario: &Scenario,
+    memory: &mut RunMemory,
+    book: &Book,
+    tally: &mut Tally,
+) -> Checked<Vec<Triplet>> {
     const CHECK: &str = "the matrix call";
     if !scenario.whole() {
         return Ok(Vec::new());
     }
     memory.fill_matrix(book.site.shape.as_ref().map_or(0, |shape| shape.matrix_most()));
-    let due = u64::from(book.matrix_held.lowest()) + 256 * book.list.len() as u64;
+    let number = book.matrix_held.lowest();
+    tally.made(Called::Matrix, number);
+    let due = u64::from(number) + 256 * book.list.len() as u64;
     hold_answer(CHECK, due, exports::matrix(memory))?;
     let list = triplets(&memory.matrix, book.list.len());
     hold_list(CHECK, &book.list, &list)?;
@@ -210,6 +217,7 @@ fn in_one_call(
     let (mut numbers, mut counted) = (sheet(scenario.longer[0]), sheet(scenario.longer[1]));
     memory.fill(scenario);
     memory.fill_changes(&changes, &numbers, &counted);
+    tally.made(Called::Whole, 0);
     hold_answer(CHECK, 0, exports::run_changes(memory))?;
     for (place, &(number, count)) in log.lines.iter().enumerate() {
         numbers[place] = number;
@@ -257,7 +265,8 @@ fn idle(scenario: &Scenario, memory: &mut RunMemory, tally: &mut Tally) -> Check
     };
     memory.fill(scenario);
     memory.fill_changes(&changes, &numbers, &counted);
-    hold_answer(CHECK, due, exports::run_changes(memory))?;
+    tally.made(Called::Whole, due);
+    hold_answer(CHECK, u64::from(due), exports::run_changes(memory))?;
     hold(CHECK, memory.changes_difference(&changes, &numbers, &counted))?;
     hold(CHECK, memory.difference(scenario, &scenario.lent.readings, &scenario.sheets))?;
     tally.idle(scenario.idle);
@@ -282,6 +291,7 @@ fn twin(
     let blank = vec![0; changes.len()];
     memory.fill(scenario);
     memory.fill_changes(&words_of(&changes), &blank, &blank);
+    tally.made(Called::Whole, 0);
     hold_answer(CHECK, 0, exports::run_changes(memory))?;
     let numbers = paper::words(memory.numbers.bytes());
     let accepted = numbers.iter().rposition(|&number| number == 0);

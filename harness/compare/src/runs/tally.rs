@@ -9,6 +9,7 @@ use crate::runs::draw::{Idle, Scenario, Step};
 use crate::runs::exports::Way;
 use crate::runs::marks::{RunMark, RUN_MARKS};
 use crate::runs::table::{self, Cell, Change, CELLS, KINDS};
+use crate::table::Cases;
 
 /// Each row about runs of changes is met at least this often.
 pub const RUN_FLOOR: u64 = 1000;
@@ -36,8 +37,32 @@ const RIVALS: [(usize, usize); 13] = [
     (5, 7),
 ];
 
+/// The exports that a run calls.
+#[derive(Clone, Copy, Debug, PartialEq, Eq)]
+pub enum Called {
+    Matrix,
+    OnBytes,
+    Typed,
+    Whole,
+}
+
+impl Called {
+    const NAMES: [&'static str; 4] =
+        ["sens_kkt_triplets", "capi_change", "site_change", "site_run_changes"];
+
+    fn of(way: Way) -> Called {
+        match way {
+            Way::Words => Called::Typed,
+            Way::Bytes(_) | Way::Ragged(..) => Called::OnBytes,
+        }
+    }
+}
+
 pub struct Tally {
     pub runs: u64,
+    cases: [Cases; Called::NAMES.len()],
+    /// The export that was called last.
+    last: Called,
     /// Changes called one by one.
     pub calls: u64,
     kinds: [u64; 9],
@@ -52,6 +77,8 @@ impl Tally {
     pub fn new() -> Tally {
         Tally {
             runs: 0,
+            cases: Default::default(),
+            last: Called::Matrix,
             calls: 0,
             kinds: [0; 9],
             answers: [0; 8],
@@ -59,6 +86,24 @@ impl Tally {
             cells: CELLS.map(|cells| vec![0; cells.len()]),
             marks: [0; RUN_MARKS.len()],
         }
+    }
+
+    /// What was done with each export.
+    pub fn cases(&self) -> impl Iterator<Item = (&'static str, Cases)> + '_ {
+        Called::NAMES.into_iter().zip(self.cases)
+    }
+
+    /// A call of which this number is due.
+    pub fn made(&mut self, export: Called, number: u8) {
+        self.last = export;
+        let cases = &mut self.cases[export as usize];
+        cases.run += 1;
+        cases.refused += u64::from(number > 0);
+    }
+
+    /// A run that went wrong, which showed after the last call.
+    pub fn missed(&mut self) {
+        self.cases[self.last as usize].mismatches += 1;
     }
 
     pub fn hit_if(&mut self, mark: RunMark, met: bool) {
@@ -113,6 +158,7 @@ impl Tally {
 
     /// What is special about a call, whatever it answers.
     pub fn call(&mut self, step: &Step, number: u8) {
+        self.made(Called::of(step.way), number);
         self.calls += 1;
         self.answers[usize::from(number)] += 1;
         match step.way {

@@ -37,6 +37,17 @@ impl Export {
         }
     }
 
+    /// As it is linked.
+    pub fn symbol(self) -> &'static str {
+        match self {
+            Export::OperandSelector => "sens_operand_selector",
+            Export::First => "sens_contraction_first",
+            Export::RightSide => "sens_right_side",
+            Export::Third => "sens_contraction_third",
+            Export::UnitScale => "sens_served_unit_scale",
+        }
+    }
+
     /// The lent outputs: the name of each and the bytes of its words.
     pub fn sheets(self) -> &'static [(&'static str, usize)] {
         match self {

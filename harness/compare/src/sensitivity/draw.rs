@@ -62,7 +62,7 @@ fn columns(rng: &mut Rng, dim: usize, words: usize) -> usize {
 }
 
 /// A number past the last, or one whose low bits are a number that is known.
-fn unknown(rng: &mut Rng, known: usize) -> u32 {
+pub fn unknown(rng: &mut Rng, known: usize) -> u32 {
     let low = rng.below(known) as u32;
     match rng.below(6) {
         0..=1 => known as u32,
@@ -85,7 +85,7 @@ fn selector_ask(rng: &mut Rng, operand: u32, elements: usize) -> Ask {
 }
 
 /// Elements of an operand, as far as they are known.
-fn elements(site: &Site, operand: u32) -> usize {
+pub fn elements(site: &Site, operand: u32) -> usize {
     rules::served(operand).and_then(|count| site.count(count)).unwrap_or(3)
 }
 
@@ -137,7 +137,7 @@ pub fn any_selector(rng: &mut Rng, site: &Site) -> Ask {
 // Contractions.
 
 /// A sign: mostly one, or anything that is checked as a weight.
-fn sign(rng: &mut Rng) -> f64 {
+pub fn sign(rng: &mut Rng) -> f64 {
     match rng.below(12) {
         0..=3 => 1.0,
         4..=7 => -1.0,
@@ -186,7 +186,7 @@ fn drawn_selector(rng: &mut Rng, dim: usize, words: usize) -> Selector {
 }
 
 /// The original's columns of a parameter that has so many to give.
-fn own_columns(rng: &mut Rng, site: &Site, kkt: &DcKkt, columns: usize) -> Option<Vec<f64>> {
+pub fn own_columns(rng: &mut Rng, site: &Site, kkt: &DcKkt, columns: usize) -> Option<Vec<f64>> {
     let (parameter, count, _) = rng.pick(&PARAMETERS_SERVED);
     let elements = smooth(site, parameter, count);
     if elements.is_empty() {
@@ -198,7 +198,7 @@ fn own_columns(rng: &mut Rng, site: &Site, kkt: &DcKkt, columns: usize) -> Optio
 }
 
 /// Words of which most are zeros of either sign, or few.
-fn drawn_columns(rng: &mut Rng, words: usize) -> Vec<f64> {
+pub fn drawn_columns(rng: &mut Rng, words: usize) -> Vec<f64> {
     let zeros = rng.pick(&[30, 95]);
     let word = |rng: &mut Rng| match rng.below(100) {
         part if part < zeros && part % 2 == 0 => 0.0,

@@ -1,100 +1,9 @@
-//! The exports' declarations, and a call of one on the memory that is lent.
+//! A call of an export on the memory that is lent.
 
 use crate::calls::Site;
 use crate::sensitivity::broken;
 use crate::sensitivity::call::{Ask, Call, Contraction};
 use crate::sensitivity::memory::Memory;
-
-mod linked {
-    extern "C" {
-        pub fn sens_operand_selector(
-            wiring: *const u32,
-            wiring_length: usize,
-            readings: *const f64,
-            readings_length: usize,
-            term_index: *const u32,
-            term_index_length: usize,
-            term_coefficient: *const f64,
-            term_coefficient_length: usize,
-            operand: u32,
-            sign: *mut f64,
-            sign_length: usize,
-            counts: *mut u32,
-            counts_length: usize,
-            rows: *mut u32,
-            rows_length: usize,
-            weights: *mut f64,
-            weights_length: usize,
-            count: *mut usize,
-        ) -> u32;
-        pub fn sens_contraction_first(
-            wiring: *const u32,
-            wiring_length: usize,
-            readings: *const f64,
-            readings_length: usize,
-            term_index: *const u32,
-            term_index_length: usize,
-            term_coefficient: *const f64,
-            term_coefficient_length: usize,
-            mode: u32,
-            sign: f64,
-            counts: *const u32,
-            counts_length: usize,
-            rows: *const u32,
-            rows_length: usize,
-            weights: *const f64,
-            weights_length: usize,
-            columns: usize,
-            selection: *mut f64,
-            selection_length: usize,
-            count: *mut usize,
-        ) -> u32;
-        pub fn sens_right_side(
-            mode: u32,
-            count: usize,
-            parameter: *const f64,
-            parameter_length: usize,
-            selection: *const f64,
-            selection_length: usize,
-            out: *mut f64,
-            out_length: usize,
-        ) -> usize;
-        pub fn sens_contraction_third(
-            wiring: *const u32,
-            wiring_length: usize,
-            readings: *const f64,
-            readings_length: usize,
-            term_index: *const u32,
-            term_index_length: usize,
-            term_coefficient: *const f64,
-            term_coefficient_length: usize,
-            mode: u32,
-            sign: f64,
-            counts: *const u32,
-            counts_length: usize,
-            rows: *const u32,
-            rows_length: usize,
-            weights: *const f64,
-            weights_length: usize,
-            columns: usize,
-            parameter: *const f64,
-            parameter_length: usize,
-            solved: *const f64,
-            solved_length: usize,
-            out: *mut f64,
-            out_length: usize,
-            count: *mut usize,
-        ) -> u32;
-        pub fn sens_served_unit_scale(
-            operand: u32,
-            parameter: u32,
-            base: f64,
-            out: *mut f64,
-            out_length: usize,
-            count: *mut usize,
-        ) -> u32;
-    }
-}
 
 /// Calls an export on the network that is lent and further arguments.
 macro_rules! on_network {
@@ -102,7 +11,7 @@ macro_rules! on_network {
         let [wiring, readings, term_index, term_coefficient] = $memory.network();
         // The memory behind each slice is a slot's, alive, aligned and of that length.
         unsafe {
-            linked::$export(
+            exports::$export(
                 wiring.start() as _,
                 wiring.length() / 4,
                 readings.start() as _,
@@ -130,7 +39,7 @@ pub fn call(memory: &mut Memory, site: &Site, ask: &Ask) -> u64 {
             memory.watch(ask, *operand, base.to_bits());
             let (out, count) = (memory.sheet(0), memory.count());
             let answer = unsafe {
-                linked::sens_served_unit_scale(*operand, *parameter, *base, out, room, count)
+                exports::sens_served_unit_scale(*operand, *parameter, *base, out, room, count)
             };
             u64::from(answer)
         }
@@ -183,7 +92,7 @@ fn right_side(memory: &Memory, ask: &Ask, mode: u32, count: usize) -> u64 {
     let [parameter, selection, ..] = memory.lists();
     // The memory behind each slice is a slot's, alive, aligned and of that length.
     let part = unsafe {
-        linked::sens_right_side(
+        exports::sens_right_side(
             broken::side(mode),
             count,
             parameter.start() as _,

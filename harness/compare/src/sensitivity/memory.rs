@@ -19,7 +19,7 @@ pub const MOST_WORDS: usize = ROOM / 8 - 64;
 const LISTS: usize = 5;
 
 /// An output with bytes before it and, for some calls, behind it.
-struct Sheet {
+pub struct Sheet {
     slot: Slot,
     /// Bytes of the output.
     length: usize,
@@ -28,32 +28,32 @@ struct Sheet {
 }
 
 impl Sheet {
-    fn new(room: usize) -> Sheet {
+    pub fn new(room: usize) -> Sheet {
         Sheet { slot: Slot::new(room), length: 0, from: 0 }
     }
 
-    fn fill(&mut self, pool: &[u8], turn: usize, length: usize, behind: bool) {
+    pub fn fill(&mut self, pool: &[u8], turn: usize, length: usize, behind: bool) {
         let whole = GUARD + length + if behind { GUARD } else { 0 };
         self.from = 8 * (turn % ((pool.len() - whole) / 8));
         self.length = length;
         self.slot.fill(&pool[self.from..self.from + whole]);
     }
 
-    fn start(&self) -> *mut u8 {
+    pub fn start(&self) -> *mut u8 {
         unsafe { self.slot.start().add(GUARD) }
     }
 
-    fn bytes(&self) -> &[u8] {
+    pub fn bytes(&self) -> &[u8] {
         &self.slot.bytes()[GUARD..GUARD + self.length]
     }
 
     /// What the output held before the call.
-    fn before<'a>(&self, pool: &'a [u8]) -> &'a [u8] {
+    pub fn before<'a>(&self, pool: &'a [u8]) -> &'a [u8] {
         &pool[self.from + GUARD..self.from + GUARD + self.length]
     }
 
     /// What is due and what is there, where the front is not these bytes or another byte moved.
-    fn difference(
+    pub fn difference(
         &self,
         name: &str,
         size: usize,

@@ -2,14 +2,14 @@
 //! order, words by the original Rust, bit for bit.
 
 mod broken;
-mod call;
-mod draw;
-mod expect;
+pub mod call;
+pub mod draw;
+pub mod expect;
 mod export;
-mod memory;
-mod rules;
+pub mod memory;
+pub mod rules;
 mod shrink;
-mod spoil;
+pub mod spoil;
 mod tally;
 
 use oracle::{DcKkt, Differentiable};
@@ -19,7 +19,8 @@ use crate::paper::{Lent, SLICE_NAMES};
 use crate::random::Rng;
 use crate::report::{hex, print_rows};
 use crate::solutions;
-use call::{Ask, Export, EXPORTS};
+use crate::table::Cases;
+use call::{Ask, Export};
 use expect::Ready;
 use memory::Memory;
 use rules::{ADJOINT, FORWARD, OPERANDS, PARAMETERS};
@@ -67,18 +68,21 @@ const SPOILED: usize = 2;
 pub struct Sensitivity {
     memory: Memory,
     tally: Tally,
-    pub mismatches: u64,
     smallest: Option<Mismatch>,
 }
 
 impl Sensitivity {
     pub fn new() -> Sensitivity {
-        Sensitivity { memory: Memory::new(), tally: Tally::new(), mismatches: 0, smallest: None }
+        Sensitivity { memory: Memory::new(), tally: Tally::new(), smallest: None }
     }
 
-    /// How often each export was called.
-    pub fn calls(&self) -> [(&'static str, u64); EXPORTS] {
-        Export::ALL.map(|export| (export.name(), self.tally.calls[export as usize]))
+    /// What was done with each export.
+    pub fn cases(&self) -> impl Iterator<Item = (&'static str, Cases)> + '_ {
+        Export::ALL.into_iter().map(|export| (export.symbol(), self.tally.cases[export as usize]))
+    }
+
+    pub fn mismatches(&self) -> u64 {
+        self.tally.cases.iter().map(|cases| cases.mismatches).sum()
     }
 
     /// Accepted and damaged networks on which calls were made.
@@ -200,7 +204,7 @@ impl Sensitivity {
         let found = self.memory.difference(site, ask, &due, answer);
         self.tally.call(site, ask, held, &due);
         if let Some((expected, got)) = found {
-            self.mismatches += 1;
+            self.tally.cases[ask.export() as usize].mismatches += 1;
             let network = ask.export().takes_network();
             let lent = if network { site.lent.clone() } else { Lent::default() };
             let origin = origin.to_string();

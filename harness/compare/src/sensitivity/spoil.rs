@@ -125,7 +125,7 @@ fn break_word(rng: &mut Rng, words: &mut [f64], limit: f64) {
 }
 
 /// A row that there isn't.
-fn outside(rng: &mut Rng, dim: usize) -> u32 {
+pub fn outside(rng: &mut Rng, dim: usize) -> u32 {
     let (end, within) = (dim as u32, rng.below(dim.max(1)) as u32);
     match rng.below(10) {
         0..=4 => end,

@@ -8,6 +8,7 @@ use crate::sensitivity::call::{Ask, Call, Contraction, Export, Words, EXPORTS};
 use crate::sensitivity::draw::Script;
 use crate::sensitivity::expect::Due;
 use crate::sensitivity::rules::{self, product, ADJOINT, AUTO, FORWARD, OPERANDS, SERVED};
+use crate::table::Cases;
 
 /// Each row is met at least this often.
 const SENSITIVITY_FLOOR: u64 = 1000;
@@ -199,7 +200,7 @@ marks! {
 pub struct Tally {
     pub accepted_networks: u64,
     pub damaged_networks: u64,
-    pub calls: [u64; EXPORTS],
+    pub cases: [Cases; EXPORTS],
     answers: [[u64; 8]; EXPORTS],
     over: [[[u64; 8]; 8]; EXPORTS],
     /// For each served operand, accepted calls with elements.
@@ -230,7 +231,7 @@ impl Tally {
         Tally {
             accepted_networks: 0,
             damaged_networks: 0,
-            calls: [0; EXPORTS],
+            cases: Default::default(),
             answers: [[0; 8]; EXPORTS],
             over: [[[0; 8]; 8]; EXPORTS],
             served: [0; SERVED.len()],
@@ -255,7 +256,7 @@ impl Tally {
     pub fn rows(&self, calls: u64) -> Vec<Row> {
         let mut rows = Vec::new();
         for export in Export::ALL {
-            let hits = self.calls[export as usize];
+            let hits = self.cases[export as usize].run;
             rows.push(row("sensitivity: calls", export.name().to_string(), hits, calls));
         }
         for (served, &hits) in SERVED.iter().zip(&self.served) {
@@ -325,7 +326,10 @@ impl Tally {
     /// What is special about a call with these numbers.
     pub fn call(&mut self, site: &Site, ask: &Ask, held: Held, due: &Due) {
         let export = ask.export() as usize;
-        self.calls[export] += 1;
+        // A right side has no number: its part is empty or not.
+        let empty = matches!(ask.call, Call::RightSide { .. }) && due.answer == 0;
+        self.cases[export].run += 1;
+        self.cases[export].refused += u64::from(empty || held.lowest() > 0);
         let number = held.lowest();
         self.answers[export][usize::from(number)] += 1;
         for high in number + 1..8 {

@@ -4,9 +4,17 @@ use std::env;
 use std::path::PathBuf;
 
 /// `libNAME.a` each; exports of the model, of the matrix, of site changes, of the program, of the
-/// parameters' columns, of selectors, contraction and unit scales.
-const LIBRARIES: [&str; 6] =
-    ["capi", "capi_sens", "capi_change", "capi_problem", "capi_parameters", "capi_sensitivity"];
+/// parameters' columns, of selectors, contraction and unit scales, and of the last three on bytes.
+const LIBRARIES: [&str; 8] = [
+    "capi",
+    "capi_sens",
+    "capi_change",
+    "capi_problem",
+    "capi_parameters",
+    "capi_sensitivity",
+    "capi_columns",
+    "capi_contraction",
+];
 
 fn main() {
     println!("cargo:rerun-if-changed=build.rs");
@@ -26,7 +34,8 @@ fn main() {
         let library = dir.join(format!("lib{}.a", name));
         println!("cargo:rerun-if-changed={}", library.display());
         if library.exists() {
-            println!("cargo:rustc-link-lib=static={}", name);
+            // Not bundled: each program links the libraries themselves.
+            println!("cargo:rustc-link-lib=static:-bundle={}", name);
         } else {
             // Without this line the linker's list of missing exports would be all there is.
             println!(

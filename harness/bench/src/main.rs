@@ -40,6 +40,8 @@ beforehand, tests nothing, and allocates and frees its results; memory that it f
 that it costs no page faults.
 
 e  one element: the port decodes and tests the whole network for it
+o  one column, in a contraction one element and one column: the port decodes and tests the whole network for it, and
+   in a contraction does so before and after the solve
 n  the Rust has no such call
 s  the Rust's call reads the sheet into its structures: that is timed in its turn as well and taken off
 w  as s; writing the result as a sheet stays in, as in the port's time

@@ -1,9 +1,10 @@
-//! All columns of each served parameter beside the original's block, whose system is made in the same call.
+//! All columns of each served parameter, and by bytes one column, beside the original's block, whose system is
+//! made in the same call.
 
-use crate::case::{hold, on, Case};
+use crate::case::{doubles, hold, on, Case};
 use crate::timing::{side_by_side, Times};
 use crate::{Form, Table};
-use exports::sens_parameter_jacobian;
+use exports::{capi_parameter_jacobian, sens_parameter_jacobian};
 use oracle::{CostTerm, Differentiable, Parameter, Power, GB};
 use std::hint::black_box;
 
@@ -52,9 +53,37 @@ fn block(case: &Case, number: u32, parameter: Parameter) -> Times {
     )
 }
 
+/// The column of the last bus's demand, which is numbered 0.
+fn column(case: &Case) -> Times {
+    let (parameter, bus) = (Parameter::Demand(Power::Active), case.size.n - 1);
+    let Ok(due) = case.original.parameter_jacobian(&case.sheet, parameter, &[bus]) else {
+        panic!("it is served");
+    };
+    let (s, mut column) = (&case.sheet_bytes, vec![0u8; 8 * due.len()]);
+    let port = |column: &mut [u8]| {
+        let answer = unsafe {
+            on!(
+                capi_parameter_jacobian, case.bytes, s.as_ptr(), s.len(), 0, bus as u32,
+                column.as_mut_ptr(), column.len(),
+            )
+        };
+        assert_eq!(black_box(answer), 256);
+    };
+    port(&mut column);
+    hold(&doubles(&column), &due);
+    side_by_side(
+        || port(&mut column),
+        || {
+            let kkt = case.original.kkt_of(black_box(&case.solved));
+            assert!(black_box(kkt.parameter_jacobian(parameter, black_box(&[bus]))).is_ok());
+        },
+    )
+}
+
 pub fn rows(table: &mut Table, cases: &[Case]) {
     for (name, number, parameter) in SERVED {
         let name = format!("parameter_jacobian, {name}");
         table.call(&name, Form::Words, "k", cases, |case| block(case, number, parameter));
     }
+    table.call("parameter_jacobian, one demand", Form::Bytes, "ko", cases, column);
 }

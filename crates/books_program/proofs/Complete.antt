@@ -67,9 +67,12 @@ module _ (c : Counts) (w : List ℕ) (r : List Float) (ti : List ℕ) (tc : List
   abbrev place : OpfRow → ℕ → ℕ
   place a k = rowStart c (activeOf c w r) a + k
 
-  -- a list whose first constraint has it
+  -- a list whose first constraint has it, or its second
   first-has : (x : Constraint) (a : OpfRow) (n k : ℕ) {xs : List Rowed} → n ≡ k → Any (Has (place a k)) (asRow x true a n ∷ xs)
   first-has x a n k e = here (refl, ap (place a) e)
+
+  second-has : (x : Rowed) (y : Constraint) (a : OpfRow) (n k : ℕ) {xs : List Rowed} → n ≡ k → Any (Has (place a k)) (x ∷ asRow y true a n ∷ xs)
+  second-has x y a n k e = there (first-has y a n k e)
 
   always-has : (x : ℕ → Constraint) (a : OpfRow) (n k : ℕ) → k < n → Any (Has (place a k)) (each n (always c w r ti tc x a))
   always-has x a n k l = any-each n _ k l (here (refl, refl))
@@ -97,17 +100,17 @@ module _ (c : Counts) (w : List ℕ) (r : List Float) (ti : List ℕ) (tc : List
   equal-in q x t (Upper u) l = absurd (not-suc-le-zero l)
   equal-in q x t (Lower v) l = absurd (not-suc-le-zero l)
   equal-in q x t (Both u v) l = absurd (not-suc-le-zero l)
-  equal-in q x t (Equal u) l = first-has _ LinearEqual (equalityRank c w r q) (equalityRank c w r q + t) (omega arith)
+  equal-in q x t (Equal u) l = first-has _ LinearEqual _ (equalityRank c w r q + t) (omega arith)
 
   limit-in : (q x t : ℕ) (k : RowLimits) → t < inequalities k → Any (Has (place LinearLimit (inequalityRank c w r q + t))) (linearRowed c w r ti tc (shapeOf k) q x)
   limit-in q x t None l = absurd (not-suc-le-zero l)
-  limit-in q x t (Upper u) l = first-has _ LinearLimit (inequalityRank c w r q) (inequalityRank c w r q + t) (omega arith)
-  limit-in q x t (Lower v) l = first-has _ LinearLimit (inequalityRank c w r q) (inequalityRank c w r q + t) (omega arith)
+  limit-in q x t (Upper u) l = first-has _ LinearLimit _ (inequalityRank c w r q + t) (omega arith)
+  limit-in q x t (Lower v) l = first-has _ LinearLimit _ (inequalityRank c w r q + t) (omega arith)
   limit-in q x t (Both u v) l = go (ℕ-discrete t 0)
     where
       go : Dec (t ≡ 0) → Any (Has (place LinearLimit (inequalityRank c w r q + t))) (linearRowed c w r ti tc (shapeOf (Both u v)) q x)
-      go (yes e) = first-has _ LinearLimit (inequalityRank c w r q) (inequalityRank c w r q + t) (omega arith)
-      go (no e) = there (first-has _ LinearLimit (inequalityRank c w r q + 1) (inequalityRank c w r q + t) (omega arith))
+      go (yes e) = first-has _ LinearLimit _ (inequalityRank c w r q + t) (omega arith)
+      go (no e) = second-has _ _ LinearLimit _ (inequalityRank c w r q + t) (omega arith)
   limit-in q x t (Equal u) l = absurd (not-suc-le-zero l)
 
   abbrev linears : List Rowed

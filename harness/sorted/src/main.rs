@@ -10,6 +10,7 @@
 //! - omega finds numbers at which what is known holds and the goal does not;
 //! - search finds no proof of a goal;
 //! - all rewritings are made, and the two sides of the equation that is left are not equal;
+//! - two terms that have to be equal are compared, and are not;
 //! - one statement is needed and another is given, both of a kind that `STATEMENTS` names.
 //! The last is no failed fact where the two are different relations, where they differ only in how
 //! many steps back they look, or where a need of another name is given: there the proof no longer fits, as
@@ -29,10 +30,11 @@ enum Kind {
 }
 
 /// Texts of a failed fact.
-const FACTS: [&str; 3] = [
+const FACTS: [&str; 4] = [
     "`omega`: the goal does not follow from what it read",
     "`search`: no proof of `",
     "has no last argument, so what it leaves must be a path whose two ends are equal, and `",
+    "does not hold (this comparison",
 ];
 
 /// Texts of a proof that no longer fits.
@@ -60,8 +62,8 @@ const RELATIONS: [(&str, &str); 8] = [
 ];
 
 /// Heads of types that say something, besides the relations: contracts and what stands in them.
-const STATEMENTS: [&str; 8] =
-    ["Post", "Learnt", "Asked", "Pre", "Any", "All", "Alike", "Agrees"];
+const STATEMENTS: [&str; 11] =
+    ["Post", "Learnt", "Asked", "Pre", "Any", "All", "Alike", "Agrees", "Goes", "Slack", "Fair"];
 
 /// How the checker marks a part of a text that it left out.
 const LEFT_OUT: &str = "…[";

@@ -25,15 +25,10 @@ use Rattle.opf_layout.proofs.Blocks.{row-of}
 use Rattle.opf_layout.proofs.Ranks.{width-met, rank-met, equality-met, inequality-met}
 use Rattle.books.specs.Convex.{Constraint}
 use Rattle.books.specs.Manual as manual
-use Rattle.books.specs.Manual.{Site, balance, flowLaw, reference, flowFloor, flowCeiling, generatorFloor, generatorCeiling, shedFloor, shedCeiling, angleFloor, angleCeiling, segment}
-use Rattle.books_program.specs.Rows.{Rowed, asRow, site, active, always, linearRowed, rowed}
+use Rattle.books.specs.Manual.{Site, segment}
+use Rattle.books_program.specs.Rows.{Rowed, asRow, site, joined, active, always, linearRowed, balances, loops, rowed}
 use Rattle.books_program.specs.Program.{Any, rowAt}
 use Rattle.books_program.specs.Program.Any.{here, there}
-
--- one list after another, up to the last
-abbrev pub joined : {A : Type 0} → List A → List (List A) → List A
-joined l [] = l
-joined l (m ∷ ls) = l ++ joined m ls
 
 module _ {A : Type 0} {P : A → Type 0} where
   -- in the first of two lists, in the second, and in one turn of a loop
@@ -72,9 +67,12 @@ module _ (c : Counts) (w : List ℕ) (r : List Float) (ti : List ℕ) (tc : List
   abbrev place : OpfRow → ℕ → ℕ
   place a k = rowStart c (activeOf c w r) a + k
 
-  -- a list whose first constraint has it
+  -- a list whose first constraint has it, or its second
   first-has : (x : Constraint) (a : OpfRow) (n k : ℕ) {xs : List Rowed} → n ≡ k → Any (Has (place a k)) (asRow x true a n ∷ xs)
   first-has x a n k e = here (refl, ap (place a) e)
+
+  second-has : (x : Rowed) (y : Constraint) (a : OpfRow) (n k : ℕ) {xs : List Rowed} → n ≡ k → Any (Has (place a k)) (x ∷ asRow y true a n ∷ xs)
+  second-has x y a n k e = there (first-has y a n k e)
 
   always-has : (x : ℕ → Constraint) (a : OpfRow) (n k : ℕ) → k < n → Any (Has (place a k)) (each n (always c w r ti tc x a))
   always-has x a n k l = any-each n _ k l (here (refl, refl))
@@ -102,17 +100,17 @@ module _ (c : Counts) (w : List ℕ) (r : List Float) (ti : List ℕ) (tc : List
   equal-in q x t (Upper u) l = absurd (not-suc-le-zero l)
   equal-in q x t (Lower v) l = absurd (not-suc-le-zero l)
   equal-in q x t (Both u v) l = absurd (not-suc-le-zero l)
-  equal-in q x t (Equal u) l = first-has _ LinearEqual (equalityRank c w r q) (equalityRank c w r q + t) (omega arith)
+  equal-in q x t (Equal u) l = first-has _ LinearEqual _ (equalityRank c w r q + t) (omega arith)
 
   limit-in : (q x t : ℕ) (k : RowLimits) → t < inequalities k → Any (Has (place LinearLimit (inequalityRank c w r q + t))) (linearRowed c w r ti tc (shapeOf k) q x)
   limit-in q x t None l = absurd (not-suc-le-zero l)
-  limit-in q x t (Upper u) l = first-has _ LinearLimit (inequalityRank c w r q) (inequalityRank c w r q + t) (omega arith)
-  limit-in q x t (Lower v) l = first-has _ LinearLimit (inequalityRank c w r q) (inequalityRank c w r q + t) (omega arith)
+  limit-in q x t (Upper u) l = first-has _ LinearLimit _ (inequalityRank c w r q + t) (omega arith)
+  limit-in q x t (Lower v) l = first-has _ LinearLimit _ (inequalityRank c w r q + t) (omega arith)
   limit-in q x t (Both u v) l = go (ℕ-discrete t 0)
     where
       go : Dec (t ≡ 0) → Any (Has (place LinearLimit (inequalityRank c w r q + t))) (linearRowed c w r ti tc (shapeOf (Both u v)) q x)
-      go (yes e) = first-has _ LinearLimit (inequalityRank c w r q) (inequalityRank c w r q + t) (omega arith)
-      go (no e) = there (first-has _ LinearLimit (inequalityRank c w r q + 1) (inequalityRank c w r q + t) (omega arith))
+      go (yes e) = first-has _ LinearLimit _ (inequalityRank c w r q + t) (omega arith)
+      go (no e) = second-has _ _ LinearLimit _ (inequalityRank c w r q + t) (omega arith)
   limit-in q x t (Equal u) l = absurd (not-suc-le-zero l)
 
   abbrev linears : List Rowed
@@ -132,44 +130,24 @@ module _ (c : Counts) (w : List ℕ) (r : List Float) (ti : List ℕ) (tc : List
 
   -- ---- each block in its turn
 
-  abbrev balances : List Rowed
-  balances = each (c .buses) (always c w r ti tc (balance own) Balance)
-
-  -- the manual's loops after the first
-  abbrev loops : List (List Rowed)
-  loops =
-      each (c .branches) (always c w r ti tc (flowLaw own) FlowRow)
-      ∷ each (c .references) (always c w r ti tc (reference own) Reference)
-      ∷ each (c .branches) (active c w r ti tc (flagged c w ThermalFlags) (flowFloor own) LineLb)
-      ∷ each (c .branches) (active c w r ti tc (flagged c w ThermalFlags) (flowCeiling own) LineUb)
-      ∷ each (c .generators) (active c w r ti tc (flagged c w GeneratorFlags) (generatorFloor own) GenLb)
-      ∷ each (c .generators) (active c w r ti tc (flagged c w GeneratorFlags) (generatorCeiling own) GenUb)
-      ∷ each (c .buses) (active c w r ti tc (sheds c w r) (shedFloor own) ShedLb)
-      ∷ each (c .buses) (active c w r ti tc (sheds c w r) (shedCeiling own) ShedUb)
-      ∷ each (c .branches) (active c w r ti tc (flagged c w AngleFlags) (angleFloor own) PhaseLb)
-      ∷ each (c .branches) (active c w r ti tc (flagged c w AngleFlags) (angleCeiling own) PhaseUb)
-      ∷ segmented
-      ∷ linears
-      ∷ []
-
-  in-loop : {P : Rowed → Type 0} (n : ℕ) → Any P (getD (balances ∷ loops) n []) → Any P (rowed c w r ti tc)
+  in-loop : {P : Rowed → Type 0} (n : ℕ) → Any P (getD (balances c w r ti tc ∷ loops c w r ti tc) n []) → Any P (rowed c w r ti tc)
   unfolding rowed
-  in-loop n p = any-joined balances loops n p
+  in-loop n p = any-joined (balances c w r ti tc) (loops c w r ti tc) n p
 
   module _ (h : Wired c w) where
     block-has : (a : OpfRow) (k : ℕ) → k < rowSize c (activeOf c w r) a → Any (Has (place a k)) (rowed c w r ti tc)
     unfolding activeOf
-    block-has Balance k l = in-loop 0 (always-has (balance own) Balance (c .buses) k l)
-    block-has FlowRow k l = in-loop 1 (always-has (flowLaw own) FlowRow (c .branches) k l)
-    block-has Reference k l = in-loop 2 (always-has (reference own) Reference (c .references) k l)
-    block-has LineLb k l = in-loop 3 (active-has (flagged c w ThermalFlags) (flowFloor own) LineLb (c .branches) k l)
-    block-has LineUb k l = in-loop 4 (active-has (flagged c w ThermalFlags) (flowCeiling own) LineUb (c .branches) k l)
-    block-has GenLb k l = in-loop 5 (active-has (flagged c w GeneratorFlags) (generatorFloor own) GenLb (c .generators) k l)
-    block-has GenUb k l = in-loop 6 (active-has (flagged c w GeneratorFlags) (generatorCeiling own) GenUb (c .generators) k l)
-    block-has ShedLb k l = in-loop 7 (active-has (sheds c w r) (shedFloor own) ShedLb (c .buses) k l)
-    block-has ShedUb k l = in-loop 8 (active-has (sheds c w r) (shedCeiling own) ShedUb (c .buses) k l)
-    block-has PhaseLb k l = in-loop 9 (active-has (flagged c w AngleFlags) (angleFloor own) PhaseLb (c .branches) k l)
-    block-has PhaseUb k l = in-loop 10 (active-has (flagged c w AngleFlags) (angleCeiling own) PhaseUb (c .branches) k l)
+    block-has Balance k l = in-loop 0 (always-has _ Balance (c .buses) k l)
+    block-has FlowRow k l = in-loop 1 (always-has _ FlowRow (c .branches) k l)
+    block-has Reference k l = in-loop 2 (always-has _ Reference (c .references) k l)
+    block-has LineLb k l = in-loop 3 (active-has (flagged c w ThermalFlags) _ LineLb (c .branches) k l)
+    block-has LineUb k l = in-loop 4 (active-has (flagged c w ThermalFlags) _ LineUb (c .branches) k l)
+    block-has GenLb k l = in-loop 5 (active-has (flagged c w GeneratorFlags) _ GenLb (c .generators) k l)
+    block-has GenUb k l = in-loop 6 (active-has (flagged c w GeneratorFlags) _ GenUb (c .generators) k l)
+    block-has ShedLb k l = in-loop 7 (active-has (sheds c w r) _ ShedLb (c .buses) k l)
+    block-has ShedUb k l = in-loop 8 (active-has (sheds c w r) _ ShedUb (c .buses) k l)
+    block-has PhaseLb k l = in-loop 9 (active-has (flagged c w AngleFlags) _ PhaseLb (c .branches) k l)
+    block-has PhaseUb k l = in-loop 10 (active-has (flagged c w AngleFlags) _ PhaseUb (c .branches) k l)
     block-has Segment k l = in-loop 11 (segment-has h k l)
     block-has LinearEqual k l = in-loop 12 (equal-has k l)
     block-has LinearLimit k l = in-loop 12 (limit-has k l)

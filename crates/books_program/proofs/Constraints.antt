@@ -7,16 +7,14 @@ use mathlib.Core.List.{List, [], _∷_, _++_, map, map-append}
 use lib.Ieee.{Float}
 use Rattle.sequence.specs.Lists.{each}
 use Rattle.network.specs.declared.Counts.{Counts}
-use Rattle.network.specs.declared.Part.the-variants.{GeneratorFlags, ThermalFlags, AngleFlags}
 use Rattle.network.specs.Layout.{segmentsAt, segmentStart}
 use Rattle.model.specs.Rows.{rowLimits}
 use Rattle.kkt_index.specs.Index.{Shape, shapeOf}
 use Rattle.kkt_index.specs.Index.Shape.{free, upperOnly, lowerOnly, twoSided, equality}
 use Rattle.books.specs.Convex.{Constraint}
 use Rattle.opf_layout.specs.declared.OpfRow.{OpfRow}
-use Rattle.opf_layout.specs.declared.OpfRow.the-variants.{Balance, FlowRow, Reference, LineUb, LineLb, GenUb, GenLb, ShedUb, ShedLb, PhaseUb, PhaseLb, Segment}
-use Rattle.opf_layout.specs.Layout.{activeRank, flagged, sheds}
-use Rattle.books.specs.Manual.{Site, program, constraints, balance, flowLaw, reference, flowFloor, flowCeiling, generatorFloor, generatorCeiling, shedFloor, shedCeiling, angleFloor, angleCeiling, segment, segments, rowConstraints, rowStart}
+use Rattle.opf_layout.specs.declared.OpfRow.the-variants.{Segment}
+use Rattle.books.specs.Manual.{Site, program, constraints, segment, segments, rowConstraints, rowStart}
 use Rattle.books_program.specs.Rows.{Rowed, asRow, site, linearRowed, rowed}
 
 unfoldable constraintsOf : List Rowed → List Constraint
@@ -53,17 +51,17 @@ module _ (c : Counts) (w : List ℕ) (r : List Float) (ti : List ℕ) (tc : List
   all-are : constraintsOf (rowed c w r ti tc) ≡ constraints own
   unfolding rowed constraints
   all-are =
-      then _ _ (singles (c .buses) (λ i. true) (balance own) Balance (λ i. i))
-      (then _ _ (singles (c .branches) (λ i. true) (flowLaw own) FlowRow (λ i. i))
-      (then _ _ (singles (c .references) (λ i. true) (reference own) Reference (λ i. i))
-      (then _ _ (singles (c .branches) (flagged c w ThermalFlags) (flowFloor own) LineLb (activeRank (flagged c w ThermalFlags)))
-      (then _ _ (singles (c .branches) (flagged c w ThermalFlags) (flowCeiling own) LineUb (activeRank (flagged c w ThermalFlags)))
-      (then _ _ (singles (c .generators) (flagged c w GeneratorFlags) (generatorFloor own) GenLb (activeRank (flagged c w GeneratorFlags)))
-      (then _ _ (singles (c .generators) (flagged c w GeneratorFlags) (generatorCeiling own) GenUb (activeRank (flagged c w GeneratorFlags)))
-      (then _ _ (singles (c .buses) (sheds c w r) (shedFloor own) ShedLb (activeRank (sheds c w r)))
-      (then _ _ (singles (c .buses) (sheds c w r) (shedCeiling own) ShedUb (activeRank (sheds c w r)))
-      (then _ _ (singles (c .branches) (flagged c w AngleFlags) (angleFloor own) PhaseLb (activeRank (flagged c w AngleFlags)))
-      (then _ _ (singles (c .branches) (flagged c w AngleFlags) (angleCeiling own) PhaseUb (activeRank (flagged c w AngleFlags)))
+      then _ _ (singles _ _ _ _ _)
+      (then _ _ (singles _ _ _ _ _)
+      (then _ _ (singles _ _ _ _ _)
+      (then _ _ (singles _ _ _ _ _)
+      (then _ _ (singles _ _ _ _ _)
+      (then _ _ (singles _ _ _ _ _)
+      (then _ _ (singles _ _ _ _ _)
+      (then _ _ (singles _ _ _ _ _)
+      (then _ _ (singles _ _ _ _ _)
+      (then _ _ (singles _ _ _ _ _)
+      (then _ _ (singles _ _ _ _ _)
       (then _ _ (of-each (c .generators) _ (segments own) (λ j. singles (segmentsAt c w j) (λ t. true) (segment own j) Segment (λ t. segmentStart c w j + t)))
       (of-each (c .rows) _ (λ q. rowConstraints own (shapeOf (rowLimits c w r q)) q (rowStart own q)) (λ q. linear-are c w r ti tc (shapeOf (rowLimits c w r q)) q (rowStart own q))))))))))))))
 

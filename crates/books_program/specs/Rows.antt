@@ -27,6 +27,11 @@ pub record Rowed : Type 0 where
 abbrev pub asRow : Constraint → Bool → OpfRow → ℕ → Rowed
 asRow x on a i = record { constraint = x; present = on; row = a; at = i }
 
+-- one list after another, up to the last
+abbrev pub joined : {A : Type 0} → List A → List (List A) → List A
+joined l [] = l
+joined l (m ∷ ls) = l ++ joined m ls
+
 module _ (c : Counts) (w : List ℕ) (r : List Float) (ti : List ℕ) (tc : List Float) where
   -- the network as the manual's program sees it; the program that is solved fixes no bus
   abbrev pub site : Site
@@ -56,19 +61,25 @@ module _ (c : Counts) (w : List ℕ) (r : List Float) (ti : List ℕ) (tc : List
       ∷ []
   linearRowed equality q x = asRow (rowLevel site q x) true LinearEqual (equalityRank c w r q) ∷ []
 
-  -- in the manual's order of its constraints
+  -- the manual's loops in its order: the first, and those after it
+  abbrev pub balances : List Rowed
+  balances = each (c .buses) (always (balance site) Balance)
+
+  abbrev pub loops : List (List Rowed)
+  loops =
+      each (c .branches) (always (flowLaw site) FlowRow)
+      ∷ each (c .references) (always (reference site) Reference)
+      ∷ each (c .branches) (active (flagged c w ThermalFlags) (flowFloor site) LineLb)
+      ∷ each (c .branches) (active (flagged c w ThermalFlags) (flowCeiling site) LineUb)
+      ∷ each (c .generators) (active (flagged c w GeneratorFlags) (generatorFloor site) GenLb)
+      ∷ each (c .generators) (active (flagged c w GeneratorFlags) (generatorCeiling site) GenUb)
+      ∷ each (c .buses) (active (sheds c w r) (shedFloor site) ShedLb)
+      ∷ each (c .buses) (active (sheds c w r) (shedCeiling site) ShedUb)
+      ∷ each (c .branches) (active (flagged c w AngleFlags) (angleFloor site) PhaseLb)
+      ∷ each (c .branches) (active (flagged c w AngleFlags) (angleCeiling site) PhaseUb)
+      ∷ each (c .generators) (λ j. each (segmentsAt c w j) (λ t. asRow (segment site j t) true Segment (segmentStart c w j + t) ∷ []))
+      ∷ each (c .rows) (λ q. linearRowed (shapeOf (rowLimits c w r q)) q (rowStart site q))
+      ∷ []
+
   unfoldable pub rowed : List Rowed
-  rowed =
-      each (c .buses) (always (balance site) Balance)
-      ++ (each (c .branches) (always (flowLaw site) FlowRow)
-      ++ (each (c .references) (always (reference site) Reference)
-      ++ (each (c .branches) (active (flagged c w ThermalFlags) (flowFloor site) LineLb)
-      ++ (each (c .branches) (active (flagged c w ThermalFlags) (flowCeiling site) LineUb)
-      ++ (each (c .generators) (active (flagged c w GeneratorFlags) (generatorFloor site) GenLb)
-      ++ (each (c .generators) (active (flagged c w GeneratorFlags) (generatorCeiling site) GenUb)
-      ++ (each (c .buses) (active (sheds c w r) (shedFloor site) ShedLb)
-      ++ (each (c .buses) (active (sheds c w r) (shedCeiling site) ShedUb)
-      ++ (each (c .branches) (active (flagged c w AngleFlags) (angleFloor site) PhaseLb)
-      ++ (each (c .branches) (active (flagged c w AngleFlags) (angleCeiling site) PhaseUb)
-      ++ (each (c .generators) (λ j. each (segmentsAt c w j) (λ t. asRow (segment site j t) true Segment (segmentStart c w j + t) ∷ []))
-      ++ each (c .rows) (λ q. linearRowed (shapeOf (rowLimits c w r q)) q (rowStart site q)))))))))))))
+  rowed = joined balances loops

@@ -71,13 +71,13 @@ module _ (G : Given) (rule : Rule) where
     number-none : (W : Words) (h : Change) → numberOf G rule further W h ≡ 0 → Passed W h
     unfolding numberOf ownTests
     number-none W h e =
-        let t1 = first-failed 0 _ _ e in
-        let t2 = first-failed 1 _ _ (t1 .1) in
-        let t3 = first-failed 2 _ _ (t2 .1) in
-        let t4 = first-failed 2 _ _ (t3 .1) in
-        let t5 = first-failed 3 _ _ (t4 .1) in
-        let t6 = first-failed 4 _ _ (t5 .1) in
-        let t7 = first-failed 6 _ _ (t6 .1) in
+        let t1 = first-failed _ _ _ e in
+        let t2 = first-failed _ _ _ (t1 .1) in
+        let t3 = first-failed _ _ _ (t2 .1) in
+        let t4 = first-failed _ _ _ (t3 .1) in
+        let t5 = first-failed _ _ _ (t4 .1) in
+        let t6 = first-failed _ _ _ (t5 .1) in
+        let t7 = first-failed _ _ _ (t6 .1) in
         record {
           sized = not-false _ (t1 .0);
           wiring = not-false _ (t2 .0);

@@ -1,5 +1,5 @@
 -- `change::change` meets its contract: a law for each return. Assumes nothing.
-use mathlib.Core.Path.{sym, _∙_}
+use mathlib.Core.Path.{_≡_, sym, _∙_}
 use native.Mathlib.Omega.{arith}
 use borrow.Author.Needs.{needs}
 use Rattle.kkt.specs.Slots.Rule.{firstPlace}
@@ -27,12 +27,13 @@ returns-2 c =
     let g = given (a .wiring .now) (a .term-index .now) (a .term-coefficient .now) (a .solution .now) in
     let u = words (a .readings .now) (a .rows .now) (a .cols .now) (a .values .now) in
     let h = change (a .head) (a .low) (a .high) in
-    (step-own g firstPlace u h (c .before .before .before .before .before .solution-number .ensures .0) (c .before .before .before .before .if1 .left) (rw (c .before .before .before .counts .ensures, c .before .before .value-of .ensures) at (c .before .change-number .ensures)) (c .if2 .taken), omega arith)
+    (step-own g firstPlace u h (c .before .before .before .before .before .solution-number .ensures .0) (c .before .before .before .before .if1 .left) (rw (c .before .before .before .counts .ensures, c .before .before .value-of .ensures) at (c .before .change-number .ensures)) (λ e. omega (arith, e, c .if2 .taken)), omega arith)
 
 place-of-requires : tie.Need-place-of-requires
 place-of-requires c κs =
     let d = c .before .before .before .before .before .solution-number .ensures .1 (c .before .before .before .before .if1 .left) in
-    let o = own-held _ _ _ _ (sym (c .if2 .left) ∙ c .before .change-number .ensures) in
+    let z : c .before .change-number .result ≡ 0 = omega (arith, c .if2 .left) in
+    let o = own-held _ _ _ _ (sym z ∙ c .before .change-number .ensures) in
     (rw (c .before .before .before .counts .ensures) (d .laid .few), (o .0, o .1))
 
 make-requires : tie.Need-make-requires
@@ -51,7 +52,7 @@ returns-3 c =
     let h = change (a .head) (a .low) (a .high) in
     let m = c .before .before .before .before .before .before .before .before .make .ensures in (
       rw (c .before .before .before .before .before .before .before .before .before .before .before .before .before .place-of .ensures .0, c .before .before .before .before .before .before .before .before .before .before .before .before .before .before .before .before .before .counts .ensures, c .before .before .before .before .before .before .before .before .before .before .before .before .before .before .before .before .value-of .ensures) at (m .0)
-          ∙ step-made g firstPlace u h (c .before .before .before .before .before .before .before .before .before .before .before .before .before .before .before .before .before .before .before .solution-number .ensures .0) (c .before .before .before .before .before .before .before .before .before .before .before .before .before .before .before .before .before .before .if1 .left) (rw (c .before .before .before .before .before .before .before .before .before .before .before .before .before .before .before .before .before .counts .ensures, c .before .before .before .before .before .before .before .before .before .before .before .before .before .before .before .before .value-of .ensures) at (c .before .before .before .before .before .before .before .before .before .before .before .before .before .before .before .change-number .ensures)) (c .before .before .before .before .before .before .before .before .before .before .before .before .before .before .if2 .left),
+          ∙ step-made g firstPlace u h (c .before .before .before .before .before .before .before .before .before .before .before .before .before .before .before .before .before .before .before .solution-number .ensures .0) (c .before .before .before .before .before .before .before .before .before .before .before .before .before .before .before .before .before .before .if1 .left) (rw (c .before .before .before .before .before .before .before .before .before .before .before .before .before .before .before .before .before .counts .ensures, c .before .before .before .before .before .before .before .before .before .before .before .before .before .before .before .before .value-of .ensures) at (c .before .before .before .before .before .before .before .before .before .before .before .before .before .before .before .change-number .ensures)) (omega (arith, c .before .before .before .before .before .before .before .before .before .before .before .before .before .before .if2 .left)),
       m .1,
     )
 

@@ -1,4 +1,5 @@
 -- `change::make` meets its contract: the list of the readings with the change, and the old value put back where it doesn't fit. Assumes nothing.
+use native.Mathlib.Omega.{arith}
 use lib.ListN.{set}
 use lib.Ieee.{nan}
 use borrow.Author.Needs.{needs}
@@ -18,14 +19,14 @@ returns c =
     let s = c .before .before .before .before .before .before .before .before .before .before .before .before .before .before .before .before .before .before .before .before .before .before in
     let a = s .args in
     list-laid firstPlace (a .c) (a .wiring .now) (a .term-index .now) (a .term-coefficient .now) (a .solution .now) (set (a .readings .now) (a .at) (a .value)) (words (a .readings .now) (a .rows .now) (a .cols .now) (a .values .now)) (s .pre .0)
-    (c .before .before .before .before .before .before .before .before .lay-kkt .ensures) (c .if1 .taken)
+    (c .before .before .before .before .before .before .before .before .lay-kkt .ensures) (omega (arith, c .if1 .taken))
 
 returns-2 : tie.Need-returns-2
 returns-2 c =
     let s = c .before .before .before .before .before .before .before .before .before .before .before .before .before .before .before .before .before .before .before .before .before .before in
     let a = s .args in
     list-refused firstPlace (a .c) (a .wiring .now) (a .term-index .now) (a .term-coefficient .now) (a .solution .now) (set (a .readings .now) (a .at) (a .value)) (words (a .readings .now) (a .rows .now) (a .cols .now) (a .values .now)) (s .pre .0)
-    (c .before .before .before .before .before .before .before .before .lay-kkt .ensures) (c .if1 .left) (restored (a .readings .now) (a .at) (a .value) nan)
+    (c .before .before .before .before .before .before .before .before .lay-kkt .ensures) (λ e. omega (arith, e, c .if1 .left)) (restored (a .readings .now) (a .at) (a .value) nan)
 
 pub make-spec : {M : Type 1} → statement M
 make-spec =

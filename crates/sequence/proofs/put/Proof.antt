@@ -15,11 +15,11 @@ returns c = (record { is = simp (not-true (c .before .before .args .t .keep) (c 
 
 returns-2 : tie.Need-returns-2
 unfolding emit when puts put1
-returns-2 c = (record { is = simp (not-false (c .before .before .before .args .t .keep) (c .before .if1 .left), lt-ltb _ _ (c .if2 .taken)); rows-kept = simp length-set; cols-kept = simp length-set; values-kept = simp length-set }, omega arith)
+returns-2 c = let s = c .before .before .before .args in (record { is = simp (not-false (s .t .keep) (c .before .if1 .left), lt-ltb (s .at) (s .limit) (omega (arith, c .if2 .taken))); rows-kept = simp length-set; cols-kept = simp length-set; values-kept = simp length-set }, omega arith)
 
 returns-3 : tie.Need-returns-3
 unfolding emit when puts put1
-returns-3 c = (record { is = simp (not-false (c .before .before .before .args .t .keep) (c .before .if1 .left), le-ltb _ _ (c .if2 .left)); rows-kept = refl; cols-kept = refl; values-kept = refl }, omega arith)
+returns-3 c = let s = c .before .before .before .args in (record { is = simp (not-false (s .t .keep) (c .before .if1 .left), le-ltb (s .at) (s .limit) (omega (arith, c .if2 .left))); rows-kept = refl; cols-kept = refl; values-kept = refl }, omega arith)
 
 pub put-spec : {M : Type 1} → statement M
 put-spec =

@@ -11,11 +11,11 @@ returns c = (rw (le-leb _ _ (c .if1 .taken)), λ e. absurd (omega arith))
 
 returns-2 : tie.Need-returns-2
 unfolding firstOf
-returns-2 c = (rw (lt-leb _ _ (c .before .if1 .left), lt-ltb _ _ (c .if2 .taken)), λ e. absurd (omega arith))
+returns-2 c = (rw (lt-leb _ _ (c .before .if1 .left), lt-ltb (c .before .before .args .room) 1 (omega (arith, c .if2 .taken))), λ e. absurd (omega arith))
 
 returns-3 : tie.Need-returns-3
 unfolding firstOf
-returns-3 c = (rw (lt-leb _ _ (c .before .if1 .left), le-ltb _ _ (c .if2 .left)), λ e. (c .before .if1 .left, c .if2 .left))
+returns-3 c = (rw (lt-leb _ _ (c .before .if1 .left), le-ltb (c .before .before .args .room) 1 (omega (arith, c .if2 .left))), λ e. (c .before .if1 .left, omega (arith, c .if2 .left)))
 
 pub element-number-spec : {M : Type 1} → statement M
 element-number-spec = tie.close (tie.spec returns returns-2 returns-3)

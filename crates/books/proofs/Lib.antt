@@ -15,4 +15,3 @@ pub mod Susceptance
 pub mod Balances
 pub mod Angles
 pub mod Whole
-pub mod Bench

@@ -97,11 +97,3 @@ block-of c p l i h =
       below = omega (arith, q .below, block-size c p l b, ap (λ (k : ℕ). getD (sizes c p l) k 0) e);
       is = omega (arith, q .place, ap (start (sizes c p l)) e);
     }
-
--- "B1: dim 20; nu_bal starts at 16, eta at 19": network B has 2 buses, a branch, a generator and a reference
-abbrev pub bench : Counts
-bench = record { buses = 2; branches = 1; generators = 1; references = 1; segments = 0; rows = 0; terms = 0 }
-
-pub bench-1 : (dim bench 0 0 ≡ 20) × (blockStart bench 0 0 NuBal ≡ 16) × (blockStart bench 0 0 Eta ≡ 19)
-unfolding dim blockStart
-bench-1 = (refl, refl, refl)

@@ -4,7 +4,7 @@
 use Prim.Native.Nat.{ℕ, suc, _+_}
 use mathlib.Core.Bool.{Bool, true, false, cond, _&&_}
 use mathlib.Core.List.{List, [], _∷_, _++_, map}
-use lib.ListN.{length, take}
+use lib.ListN.{length, take, set}
 use lib.Dec.{eqb}
 use lib.Ieee.{Float, binary64, neg, div, lt, eq, toBits}
 use Rattle.float64.specs.Values.{nought, whole, tolerance}
@@ -14,6 +14,7 @@ use Rattle.network.specs.declared.Counts.{Counts}
 use Rattle.network.specs.Layout.{countsOf, reading}
 use Rattle.model.specs.Rows.{rowLimits, isEquality}
 use Rattle.model.specs.Quantities.{shedCap}
+use Rattle.solution.specs.NetworkB.{wiringB, readingsB, sheetB}
 use Rattle.solution.specs.Sheet.{pieces, solved}
 use Rattle.kkt_index.specs.declared.Block.the-variants.{Va, NuBal, NuFlow, Eta}
 use Rattle.kkt_index.specs.Index.{linearRows, blockStart, dim}
@@ -173,34 +174,24 @@ asked x = told (countsOf (x .wiring)) (x .wiring) (x .readings) (x .sheet) (x .q
 
 -- ---- network B, with what the cases change of it
 
--- "n 2, m 1, k 1, R 1 (bus 0), no S, q, T; allow_shed 0, objective 1; branch 0 to 1, generator at 0, all flags 1"
-abbrev wiringBy : ℕ → List ℕ
-wiringBy allow = 2 ∷ 1 ∷ 1 ∷ 1 ∷ 0 ∷ 0 ∷ 0 ∷ allow ∷ 1 ∷ 0 ∷ 1 ∷ 0 ∷ 0 ∷ 0 ∷ 1 ∷ 1 ∷ 1 ∷ []
+-- allow_shed 1
+abbrev shedOn : List ℕ
+shedOn = set wiringB 7 1
 
-abbrev half : Float
-half = div binary64 (whole 1) (whole 2)
+-- bus 1's demand
+abbrev demandB : Float → List Float
+demandB x = set readingsB 16 x
 
--- "base 100, b -4, sw 1, shift and offset 0, fmax 4, angles -0.5 and 0.5, gmin 0, gmax 2, cq 1, cl and cc 0, c_shed 3 3, demand 0 1, shunt and HVDC 0"
-abbrev readingsBy : Float → Float → List Float
-readingsBy angmax demand =
-    whole 100 ∷ neg (whole 4) ∷ whole 1 ∷ whole 0 ∷ whole 0 ∷ whole 4 ∷ neg half ∷ angmax ∷ whole 0 ∷ whole 2 ∷ whole 1 ∷ whole 0 ∷ whole 0 ∷ whole 3 ∷ whole 3 ∷ whole 0 ∷ demand ∷ whole 0 ∷ whole 0 ∷ whole 0 ∷ whole 0 ∷ []
+-- the tolerance as angmax; both angles 0, and gamma_ub 1
+abbrev nearReadings : List Float
+nearReadings = set readingsB 7 tolerance
 
--- "va 0 -0.25, pg 1, f 1, psh 0 0, nu_bal 2 2, mu_lb 1 1, objective 1, all else 0"
-abbrev sheetBy : Float → Float → Float → List Float
-sheetBy va psh gamma =
-    whole 0 ∷ va ∷ whole 1 ∷ whole 1 ∷ whole 0 ∷ psh ∷ whole 2 ∷ whole 2 ∷ whole 0 ∷ whole 0 ∷ whole 0 ∷ whole 0 ∷ whole 0 ∷ whole 0 ∷ whole 1 ∷ whole 1 ∷ gamma ∷ whole 0 ∷ whole 1 ∷ []
+abbrev nearSheet : List Float
+nearSheet = set (set sheetB 1 (whole 0)) 16 (whole 1)
 
-abbrev quarter : Float
-quarter = div binary64 (whole 1) (whole 4)
-
-abbrev wiringB : List ℕ
-wiringB = wiringBy 0
-
-abbrev readingsB : List Float
-readingsB = readingsBy half (whole 1)
-
-abbrev sheetB : List Float
-sheetB = sheetBy (neg quarter) (whole 0) (whole 0)
+-- bus 1's shed demand
+abbrev shedSheet : List Float
+shedSheet = set sheetB 5 tolerance
 
 -- 10^-7, 1 divided by 10,000,000
 abbrev small : Float
@@ -237,13 +228,13 @@ cases =
     ∷ case wiringB readingsB sheetB bookMatrix (45 ∷ lessFour ∷ lessFour ∷ four ∷ one ∷ [])
     ∷ case wiringB readingsB sheetB bookProgram (4 ∷ 10 ∷ 17 ∷ 1 ∷ [])
     -- B4: shedding on, demand 10^-7: a column, yet fixed. At the tolerance itself: a column, not fixed. At 0: no column, fixed
-    ∷ case (wiringBy 1) (readingsBy half small) sheetB (shedding 1) (5 ∷ 1 ∷ 1 ∷ [])
-    ∷ case (wiringBy 1) (readingsBy half tolerance) sheetB (shedding 1) (5 ∷ 1 ∷ 0 ∷ [])
-    ∷ case (wiringBy 1) (readingsBy half (whole 0)) sheetB (shedding 1) (4 ∷ 0 ∷ 1 ∷ [])
+    ∷ case shedOn (demandB small) sheetB (shedding 1) (5 ∷ 1 ∷ 1 ∷ [])
+    ∷ case shedOn (demandB tolerance) sheetB (shedding 1) (5 ∷ 1 ∷ 0 ∷ [])
+    ∷ case shedOn (demandB (whole 0)) sheetB (shedding 1) (4 ∷ 0 ∷ 1 ∷ [])
     -- B5: angmax equal to the tolerance, both angles 0, gamma_ub 1: kept
-    ∷ case wiringB (readingsBy tolerance (whole 1)) (sheetBy (whole 0) (whole 0) (whole 1)) (angle 0) (one ∷ [])
+    ∷ case wiringB nearReadings nearSheet (angle 0) (one ∷ [])
     -- B6: cap 1, shed equal to the tolerance: shed kept, both mu 0
-    ∷ case (wiringBy 1) readingsB (sheetBy (neg quarter) tolerance (whole 0)) (shed 1) (0x3eb0_c6f7_a0b5_ed8d ∷ 0 ∷ 0 ∷ [])
+    ∷ case shedOn readingsB shedSheet (shed 1) (0x3eb0_c6f7_a0b5_ed8d ∷ 0 ∷ 0 ∷ [])
     -- B7: limits -0 and +0: equality, either way round
     ∷ case oneRow (whole 100 ∷ nought ∷ neg nought ∷ []) [] (equality 0) (1 ∷ [])
     ∷ case oneRow (whole 100 ∷ neg nought ∷ nought ∷ []) [] (equality 0) (1 ∷ [])

@@ -12,6 +12,8 @@ use Rattle.sequence.specs.Answers.{firstOf, marked, fills}
 use Rattle.sequence.specs.Lists.{before, every, some, each, when, made, turns, front}
 use Rattle.sequence.specs.Sheets.{emit, put1, puts, lays}
 use Rattle.sequence.proofs.Lists.{and-left, and-right}
+use Rattle.sequence.specs.Facts.{All}
+use Rattle.sequence.specs.Facts.All.{done, _&_}
 use Rattle.words.specs.Words.{joined}
 use Rattle.network.specs.Layout.{partStart, wire, fieldStart, place, reading, segmentStart, termStart}
 use Rattle.network.specs.Numbers.{few, lengthsHold, sumsHold, sizesHold, partHolds, flowTermsHold, generationTermsHold, termsHold, wiringHolds, inRank, fieldHolds, allWithin, readingsHold, networkNumber}
@@ -23,8 +25,6 @@ use Rattle.solution_check.specs.Tests.{solutionLong, solutionHolds}
 use Rattle.snapping.specs.Snap.{snapSheet, plainWords}
 use Rattle.kkt.specs.Matrix.{emitted, kktList}
 use Rattle.kkt.specs.Slots.{branchParts, referenceSlot, columns, slots}
-use Rattle.kkt_laws.specs.Laws.{All}
-use Rattle.kkt_laws.specs.Laws.All.{done, _&_}
 use Rattle.sens_dc.specs.Calls.{matrixNumber}
 use Rattle.change_table.specs.Table.{namedCells, among}
 use Rattle.job_book.specs.Book.{ownTests, byNumber, numberOf, step}

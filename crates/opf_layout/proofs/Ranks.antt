@@ -1,15 +1,15 @@
 -- Active limits are numbered 0, 1, 2, .. in order, each number met once; a linear row holds as many places as it has rows, one after the other.
--- Main results: `rank-below`, `rank-apart`, `rank-met`; `piece-rank`; `equality-apart`, `equality-met`, `inequality-apart`, `inequality-met`. Assumes nothing.
+-- Main results: `rank-below`, `rank-apart`, `rank-met`, `rank-few`; `piece-rank`; `equality-apart`, `equality-met`, `inequality-apart`, `inequality-met`. Assumes nothing.
 use mathlib.Core.Path.{_≡_, refl, sym, ap, subst}
 use mathlib.Core.Bool.{Bool, true, false, cond, not}
 use mathlib.Core.List.{List}
-use Prim.Native.Nat.{ℕ, zero, suc, _+_, _-_, _<_}
+use Prim.Native.Nat.{ℕ, zero, suc, _+_, _-_, _≤_, _<_}
 use native.Mathlib.Omega.{arith}
 use native.Mathlib.Decide.{decLt}
 use lib.Dec.{T, eqb}
 use lib.Ieee.{Float}
 use Rattle.sequence.specs.Lists.{before}
-use Rattle.sequence.proofs.Lists.{before-none, before-more, before-within, before-same}
+use Rattle.sequence.proofs.Lists.{before-within, before-same, before-bound}
 use Rattle.network.specs.declared.Counts.{Counts}
 use Rattle.network.specs.declared.Part.the-variants.{Segments}
 use Rattle.network.specs.Layout.{segmentsAt}
@@ -92,15 +92,14 @@ rank-met on n k h = go (width-met (λ i. cond (on i) 1 0) n k h)
         let q = owned (on (p .index)) (p .at) (p .inside) in
         record { index = p .index; below = p .below; active = q .0; is = omega (arith, p .is, q .1) }
 
--- an active one takes the next number
-pub rank-on : (on : ℕ → Bool) (i : ℕ) → on i ≡ true → activeRank on (i + 1) ≡ activeRank on i + 1
-unfolding activeRank
-rank-on on i e = rw (before-more (λ i. cond (on i) 1 0) i, e)
+one-few : (b : Bool) → cond b 1 0 ≤ 1
+one-few true = omega arith
+one-few false = omega arith
 
--- and one that is off takes none
-pub rank-off : (on : ℕ → Bool) (i : ℕ) → on i ≡ false → activeRank on (i + 1) ≡ activeRank on i
+-- no more are active than there are
+pub rank-few : (on : ℕ → Bool) (n : ℕ) → activeRank on n ≤ n
 unfolding activeRank
-rank-off on i e = rw (before-more (λ i. cond (on i) 1 0) i, e) (omega arith)
+rank-few on n = omega (arith, before-bound (λ i. cond (on i) 1 0) 1 n (λ i h. one-few (on i)))
 
 -- ---- piecewise generators
 

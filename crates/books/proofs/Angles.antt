@@ -1,6 +1,5 @@
 -- The port's list agrees with the books' in the columns of the angles: the rows of the angle limits, of the flow law and of the references.
 -- Main results: one for each pair of blocks, named by them; of the references, all but what is spared. Assumes nothing.
-use borrow.Author.Tests.{ne-eqb}
 use mathlib.Core.Path.{_≡_, refl, sym, ap, _∙_}
 use mathlib.Core.Bool.{Bool, true, false, not, _&&_}
 use mathlib.Core.List.{List, [], _∷_, _++_, append-nil}
@@ -8,6 +7,7 @@ use Prim.Native.Nat.{ℕ, _<_}
 use lib.Dec.{eqb}
 use lib.Ieee.{Float, binary64, mul, neg}
 use lib.Ieee.Fits.{mul-fits}
+use borrow.Author.Tests.{ne-eqb}
 use Rattle.float64.specs.Values as doubles
 use Rattle.float64.proofs.Signs.{neg-neg, mul-neg-left, mul-neg-right}
 use Rattle.sequence.specs.Lists.{when, some}

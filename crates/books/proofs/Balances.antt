@@ -1,12 +1,12 @@
 -- The port's list agrees with the books' at the blocks of the balances: angles, dispatch and shed demand against the balances' multipliers.
 -- Main results: one for each pair of blocks, named by them; and of an angle's column `va-at`, `no-incident`, `no-balance`, `no-reference`. Assumes nothing.
-use borrow.Author.Tests.{ne-eqb}
 use mathlib.Core.Path.{_≡_, refl, sym, ap, ap₂, _∙_}
 use mathlib.Core.Bool.{Bool, true, false}
 use mathlib.Core.List.{List, [], _∷_, _++_, append-nil}
 use Prim.Native.Nat.{ℕ, _+_, _<_}
 use lib.Dec.{eqb}
 use lib.Ieee.{Float, neg}
+use borrow.Author.Tests.{ne-eqb}
 use Rattle.float64.specs.Values as doubles
 use Rattle.float64.proofs.Signs.{neg-neg}
 use Rattle.sequence.specs.Lists.{each, when}

@@ -1,6 +1,5 @@
 -- At each pair of blocks one group of the port's list meets one of the books': `by-key`, `turns`. And the doubles' laws in the terms of the two lists.
 -- Main results: `Agree`, `turns`, `word`, `once`, `twice`. Assumes nothing.
-use borrow.Author.Tests.{eq-eqb}
 use mathlib.Core.Path.{_≡_, refl, sym, ap, _∙_}
 use mathlib.Core.Bool.{Bool, true, false}
 use mathlib.Core.List.{List, [], _∷_, append-nil}
@@ -8,6 +7,7 @@ use Prim.Native.Nat.{ℕ, _+_, _<_}
 use lib.Dec.{T, eqb}
 use lib.Ieee.{Float, binary64, mul, neg, ofBits, fits}
 use lib.Ieee.Fits.{neg-fits}
+use borrow.Author.Tests.{eq-eqb}
 use Rattle.float64.specs.Values.{one}
 use Rattle.float64.proofs.Signs.{neg-neg, mul-neg-left, mul-neg-right, mul-one-right, mul-less-one}
 use Rattle.sequence.specs.Lists.{each}

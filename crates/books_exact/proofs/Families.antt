@@ -1,6 +1,5 @@
 -- The manual's constraints by families: a sum over all of them is the sum of the families' sums; each multiplier is a dual unknown and each gradient names variables only.
 -- Main definitions: `Sided`, `side`. Main results: `families`, `sided`, `matrix-at-variable`, `matrix-at-multiplier`, `multipliers`. Assumes nothing.
-use borrow.Author.Tests.{ne-eqb}
 use mathlib.Core.Path.{_≡_, refl, sym, ap, ap₂, _∙_}
 use mathlib.Core.Bool.{Bool, true, false, cond, _&&_}
 use mathlib.Core.List.{List, _++_}
@@ -10,6 +9,7 @@ use native.Mathlib.Nat.{add-zero as plus-zero}
 use native.Mathlib.Omega.{arith}
 use lib.Dec.{eqb, lit<}
 use lib.Ieee.{Float}
+use borrow.Author.Tests.{ne-eqb}
 use Rattle.float64.specs.Values.{whole}
 use Rattle.sequence.specs.Facts.{All}
 use Rattle.sequence.specs.Facts.All.{done, _&_}

@@ -1,6 +1,5 @@
 -- The rows that are differentiated are Boyd and Vandenberghe's residual (11.53) of the manual's program, exactly, over any commutative ring.
 -- Main results: `book-at-variable`, `book-at-multiplier`, `residual-is-the-books`. Assumes nothing.
-use borrow.Author.Tests.{ne-eqb}
 use mathlib.Core.Path.{_≡_, refl, sym, ap, ap₂, _∙_}
 use mathlib.Core.Bool.{Bool, true, false, cond}
 use mathlib.Core.List.{[], _∷_}
@@ -8,6 +7,7 @@ use mathlib.Mathlib.Algebra.Ring.Defs.{CommRing}
 use Prim.Native.Nat.{ℕ, _<_}
 use native.Mathlib.Omega.{arith}
 use lib.Dec.{eqb, lit<}
+use borrow.Author.Tests.{ne-eqb}
 use Rattle.float64.specs.Values.{whole}
 use Rattle.network.specs.declared.Field.the-variants.{Cq, Cl, CShed}
 use Rattle.network.specs.Layout.{segmentsAt}

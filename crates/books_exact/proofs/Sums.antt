@@ -1,31 +1,22 @@
 -- More laws of finite sums in a commutative ring: over appended lists and loops, of products, of one index, and of one place among stretches laid end to end.
 -- Main results: `sum-append`, `sum-each`, `total-swap`, `total-point`, `total-flat`. Assumes nothing.
-use borrow.Author.Tests.{eq-eqb, ne-eqb}
 use mathlib.Core.Path.{_≡_, refl, sym, ap, ap₂, _∙_}
 use mathlib.Core.Bool.{Bool, true, false, cond, _&&_}
 use mathlib.Core.List.{List, [], _∷_, _++_}
 use mathlib.Mathlib.Algebra.Ring.Defs.{CommRing}
 use Prim.Native.Nat.{ℕ, zero, suc, _+_ as _plus_, _<_}
 use native.Mathlib.Omega.{arith}
-use native.Mathlib.Decide.{ℕ-discrete, decLt}
+use native.Mathlib.Decide.{ℕ-discrete}
 use lib.Dec.{eqb}
+use borrow.Author.Tests.{eq-eqb, ne-eqb}
 use Rattle.sequence.specs.Lists.{before, each, when}
-use Rattle.sequence.proofs.Lists.{before-within}
+use Rattle.sequence.proofs.Lists.{before-apart}
 use Rattle.exact.specs.Ring.{sum, total, only}
 use Rattle.exact.proofs.Sums.{add-assoc, zero-add, add-zero, add-mul, zero-mul, total-same, total-zero, total-add}
 use Rattle.books_exact.proofs.Laws.{neg-zero, neg-add, mul-add, mul-zero, one-mul, ring}
 
 pub eqb-own : (k : ℕ) → eqb k k ≡ true
 eqb-own k = eq-eqb k k refl
-
--- a stretch's place in the whole says which stretch it is
-pub before-apart : (w : ℕ → ℕ) (j t i u : ℕ) → t < w j → u < w i → before w j plus t ≡ before w i plus u → j ≡ i
-before-apart w j t i u p q e = go (decLt j i) (decLt i j)
-  where
-    go : Dec (j < i) → Dec (i < j) → j ≡ i
-    go (yes l) d = let z : ⊥ = omega (arith, before-within w j i l) in absurd z
-    go (no l) (yes m) = let z : ⊥ = omega (arith, before-within w i j m) in absurd z
-    go (no l) (no m) = omega arith
 
 module _ {R : Type 0} (𝓡 : CommRing R) where
   open CommRing 𝓡 using (add as _+_, mul as _*_, neg as less, zero as 𝟘, one as 𝟙)
@@ -148,6 +139,6 @@ module _ {R : Type 0} (𝓡 : CommRing R) where
       → total 𝓡 (λ i. total 𝓡 (λ u. only 𝓡 (eqb (before w i plus u) (before w j plus t)) (f i u)) (w i)) n ≡ f j t
   unfolding only
   total-flat w f j t n l m =
-      total-at _ j n l (λ i p d. total-none _ (w i) (λ u q. rw (ne-eqb (before w i plus u) (before w j plus t) (λ e. d (before-apart w i u j t q m e)))))
+      total-at _ j n l (λ i p d. total-none _ (w i) (λ u q. rw (ne-eqb (before w i plus u) (before w j plus t) (λ e. d (before-apart w i j u t q m e .0)))))
       ∙ total-at _ t (w j) m (λ u q d. rw (ne-eqb (before w j plus u) (before w j plus t) (λ e. d (omega arith))))
       ∙ rw (eqb-own (before w j plus t))

@@ -1,13 +1,14 @@
 -- The matrix's row at a variable: of each family the multipliers that its gradients bring there, block by block.
 -- Main results: `at-angle`, `at-dispatch`, `at-flow`, `at-shed`, `at-cost`. Assumes nothing.
-use borrow.Author.Tests.{ne-eqb}
 use mathlib.Core.Path.{_≡_, refl, sym, ap, ap₂, _∙_}
 use mathlib.Core.Bool.{Bool, true, false, cond, _&&_}
 use mathlib.Mathlib.Algebra.Ring.Defs.{CommRing}
 use Prim.Native.Nat.{ℕ, zero, _+_ as _plus_, _<_}
 use native.Mathlib.Omega.{arith}
 use lib.Dec.{eqb, lit<}
+use borrow.Author.Tests.{ne-eqb}
 use Rattle.float64.specs.Values.{one, whole}
+use Rattle.sequence.proofs.Lists.{before-apart}
 use Rattle.network.specs.declared.Part.the-variants.{GenBus, References, FlowTerms, GenerationTerms}
 use Rattle.network.specs.declared.Field.the-variants.{Sw, Cq, Slopes}
 use Rattle.network.specs.Layout.{wire, segmentsAt, segmentStart}
@@ -26,7 +27,7 @@ use Rattle.books.specs.Manual.{Site, program, constraints, from, to, weight, bb
 use Rattle.books.specs.Matrix.{samePlace}
 use Rattle.books_exact.specs.Exact.{World, Sound, exactOf}
 use Rattle.books_exact.proofs.Laws.{units, ring, neg-add}
-use Rattle.books_exact.proofs.Sums.{eqb-own, before-apart, sum-append, sum-singles, sum-each, sum-when, sum-one, only-mark, only-both, only-neg, only-on, only-off, total-none, total-neg, total-only, total-at, total-point}
+use Rattle.books_exact.proofs.Sums.{eqb-own, sum-append, sum-singles, sum-each, sum-when, sum-one, only-mark, only-both, only-neg, only-on, only-off, total-none, total-neg, total-only, total-at, total-point}
 use Rattle.books_exact.proofs.Applied.{applied, coefficient, columnOf}
 use Rattle.books_exact.proofs.Families.{families, of-block, matrix-at-variable}
 use Rattle.books_exact.proofs.Branches.{incidence, bbus-column}
@@ -357,7 +358,7 @@ module _ {A : Type 0} (𝓡 : CommRing A) (W : World A) (h : Sound 𝓡 W) (v : 
   unfolding pieceRank
   pieces-apart i j t d l m =
       ne-eqb _ _
-      (λ e. d (before-apart (piece (s .counts) (s .wiring)) i 0 j 0 (piecewise i (omega arith)) (piecewise j m) (ap (λ (k : ℕ). k plus 0) e)))
+      (λ e. d (before-apart (piece (s .counts) (s .wiring)) i j 0 0 (piecewise i (omega arith)) (piecewise j m) (ap (λ (k : ℕ). k plus 0) e) .0))
     where
       piecewise : (k : ℕ) → 0 < segmentsAt (s .counts) (s .wiring) k → 0 < piece (s .counts) (s .wiring) k
       piecewise k q = rw (ne-eqb (segmentsAt (s .counts) (s .wiring) k) 0 (λ e. omega arith)) (lit< tt)

@@ -18,9 +18,9 @@ use Rattle.solution.specs.declared.Entry.{Entry}
 use Rattle.solution.specs.declared.Entry.the-variants.{Va, NuBal, LamUb, LamLb, RhoUb, RhoLb, MuUb, MuLb, GammaUb, GammaLb, SegmentDual, LinearDual}
 use Rattle.solution.specs.Sheet.{entries, rank, size, sizes, pieces, entryStart, solved}
 use Rattle.solution.proofs.Entries.{entry-of-rank, rank-below}
-use Rattle.sens_snap.proofs.Words.{entry-size}
 use Rattle.kkt_index.specs.Index.{shapeOf}
 use Rattle.kkt_index.proofs.Segments.{segment-inside}
+use Rattle.snapping.proofs.Words.{entry-size}
 use Rattle.opf_readback.specs.Readback.{readAt, readSheet, linearDual}
 use Rattle.books.specs.Matrix.{Doubles}
 use Rattle.books.proofs.Zeros.{SameOrZeros, alike-sub}

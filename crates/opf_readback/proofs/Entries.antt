@@ -20,8 +20,8 @@ use Rattle.model.specs.Quantities.{evaluate}
 use Rattle.solution.specs.declared.Entry.{Entry}
 use Rattle.solution.specs.declared.Entry.the-variants.{Va, Pg, Flow, Psh, NuBal, LamUb, LamLb, RhoUb, RhoLb, MuUb, MuLb, GammaUb, GammaLb, Epigraph, SegmentDual, LinearDual, LinearValue, Objective}
 use Rattle.solution.specs.Sheet.{entries, size, sizes, pieces, sheetLength}
-use Rattle.sens_snap.proofs.Words.{entry-size}
 use Rattle.snapping.proofs.Rows.{part, part-length, part-at}
+use Rattle.snapping.proofs.Words.{entry-size}
 use Rattle.opf_layout.specs.declared.OpfColumn.{OpfColumn}
 use Rattle.opf_layout.specs.declared.OpfColumn.the-variants as columns
 use Rattle.opf_layout.specs.declared.OpfRow.{OpfRow}

@@ -2,5 +2,4 @@
 pub mod Steps
 pub mod Stores
 pub mod Turns
-pub mod Words
 pub mod Returns

@@ -1,4 +1,4 @@
--- The laws of what loops make: one turn more, turns that change nothing, equal turns. Assumes nothing.
+-- The laws of booleans, and of what loops make: one turn more, turns that change nothing, equal turns, runs laid end to end. Assumes nothing.
 use mathlib.Core.Path.{_≡_, refl, sym, ap, _∙_, subst}
 use mathlib.Core.Bool.{Bool, true, false, not, _&&_, _||_, and-false, or-true, false≢true}
 use mathlib.Mathlib.Data.Bool.Basic.{or-eq-false-eq-eq-false-and-eq-false}
@@ -9,7 +9,7 @@ use Prim.Native.Nat.{ℕ, zero, suc, _+_, _-_, _*_, _≤_, _<_}
 use native.Mathlib.Nat.{eq-or-lt-of-le, not-suc-le-zero, le-of-suc-le-suc}
 use native.Mathlib.Numerals.{add-one}
 use native.Mathlib.Omega.{arith}
-use native.Mathlib.Decide.{ℕ-discrete}
+use native.Mathlib.Decide.{ℕ-discrete, decLt}
 use lib.Dec.{T}
 use lib.ListN.{length, getD, set, length-append, length-drop, List·getD-append}
 use lib.Seq.{ext-getD, getD-append-add, getD-at, getD-set-same, getD-set-other}
@@ -55,6 +55,15 @@ before-le f i (suc n) h =
 -- a part of the sum lies within the whole
 pub before-within : (f : ℕ → ℕ) (i n : ℕ) → i < n → before f i + f i ≤ before f n
 before-within f i n h = omega (arith, before-le f (i + 1) n (omega arith), before-more f i)
+
+-- two places that are one place are of one part, at one index
+pub before-apart : (f : ℕ → ℕ) (i j t s : ℕ) → t < f i → s < f j → before f i + t ≡ before f j + s → (i ≡ j) × (t ≡ s)
+before-apart f i j t s ht hs e = go (decLt i j) (decLt j i)
+  where
+    go : Dec (i < j) → Dec (j < i) → (i ≡ j) × (t ≡ s)
+    go (yes l) d = absurd (omega (arith, e, before-within f i j l))
+    go (no l) (yes d) = absurd (omega (arith, e, before-within f j i d))
+    go (no l) (no d) = let q : i ≡ j = omega arith in (q, omega (arith, e, ap (before f) q))
 
 pub before-same : (f g : ℕ → ℕ) (n : ℕ) → ((i : ℕ) → i < n → f i ≡ g i) → before f n ≡ before g n
 unfolding before

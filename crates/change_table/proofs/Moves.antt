@@ -1,5 +1,5 @@
 -- Each kind's change moves every cell that it names: one network, and one change of each kind, by computation.
--- Main results: `every-named-cell-moves`, and `moved`, which says the same of each kind by itself. Assumes nothing.
+-- Main results: `kinds-occur`, `network-accepted`, `every-named-cell-moves`, and `moved`, which says the same of each kind by itself. Assumes nothing.
 use mathlib.Core.Path.{_≡_, refl, sym, ap, subst, _∙_}
 use mathlib.Core.Bool.{Bool, true, false, not, _&&_}
 use mathlib.Core.Logic.{⊎-elim}

@@ -1,4 +1,4 @@
--- Laws of binary64 that are exact: changes of sign, and products by 1 and -1 of a value that fits.
+-- Laws of binary64 that are exact: changes of sign, and products by 1 and -1 of a value that fits. Assumes nothing.
 use mathlib.Core.Path.{_≡_, refl, sym, ap, _∙_, subst}
 use mathlib.Core.Bool.{Bool, true, false, not, cond, _&&_}
 use Prim.Native.Nat.{ℕ, zero, suc, _+_, _-_, _*_, _/_, _%_, _^_, _≤_, _<_}

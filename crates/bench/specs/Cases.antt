@@ -2,21 +2,20 @@
 -- B1 to B3 are asked of the port's definitions and of the two books'.
 -- Main definitions: `Question`, `Case`, `asked`, `cases`, `agree`. Assumes nothing.
 use Prim.Native.Nat.{ℕ, suc, _+_}
-use mathlib.Core.Bool.{Bool, true, false, cond, _&&_}
+use mathlib.Core.Bool.{Bool, true, false, cond, _&&_, _||_}
 use mathlib.Core.List.{List, [], _∷_, _++_, map}
 use lib.ListN.{length, take, set}
 use lib.Dec.{eqb}
-use lib.Ieee.{Float, binary64, neg, div, lt, eq, toBits}
+use lib.Ieee.{Float, binary64, neg, div, eq, toBits}
 use Rattle.float64.specs.Values.{nought, whole, tolerance}
 use Rattle.sequence.specs.Lists.{each, when}
 use Rattle.sequence.specs.Sheets.{Triplet}
 use Rattle.network.specs.declared.Counts.{Counts}
 use Rattle.network.specs.Layout.{countsOf, reading}
 use Rattle.model.specs.Rows.{rowLimits, isEquality}
-use Rattle.model.specs.Quantities.{shedCap}
 use Rattle.solution.specs.NetworkB.{wiringB, readingsB, sheetB}
 use Rattle.solution.specs.Sheet.{pieces, solved}
-use Rattle.kkt_index.specs.declared.Block.the-variants.{Va, NuBal, NuFlow, Eta}
+use Rattle.kkt_index.specs.declared.Block.the-variants.{Va, MuLb, MuUb, NuBal, NuFlow, Eta}
 use Rattle.kkt_index.specs.Index.{linearRows, blockStart, dim}
 use Rattle.snapping.specs.Expr.{Expr, eval}
 use Rattle.snapping.specs.Snap.{shedOf, muLbOf, muUbOf, gammaUbOf}
@@ -50,7 +49,7 @@ pub data Question : Type 0 where
   bookMatrix : Question
   -- of the manual's program: how many rows, entries of A and entries of P it has
   bookProgram : Question
-  -- of a bus: how many columns the assembly has, whether one is its own, and whether the matrix fixes the bus
+  -- of a bus: how many columns the assembly has, whether one is its own, and the triplets in the rows mu_lb and mu_ub of the matrix: those of a fixed bus are both 1
   shedding : ℕ → Question
   -- of a branch: gamma_ub, snapped
   angle : ℕ → Question
@@ -84,6 +83,11 @@ bits x = toBits binary64 x
 unfoldable pub flat : List Triplet → List ℕ
 flat [] = []
 flat (t ∷ ts) = t .row ∷ t .col ∷ bits (t .value) ∷ flat ts
+
+-- the triplets in two rows
+unfoldable pub inRows : ℕ → ℕ → List Triplet → List Triplet
+inRows a b [] = []
+inRows a b (t ∷ ts) = when (eqb (t .row) a || eqb (t .row) b) (t ∷ []) ++ inRows a b ts
 
 -- where a row of the residual stands
 unfoldable pub placeIn : Place → List Row → ℕ
@@ -162,7 +166,10 @@ module _ (c : Counts) (w : List ℕ) (r s : List Float) where
       ∷ rowEntries (constant c w r [] []) (variables columns) (rowed c w r [] [])
       ∷ length (manual.program (site c w r [] []) .hessian)
       ∷ []
-  told (shedding i) = nvar c (activeOf c w r) ∷ bit (sheds c w r i) ∷ bit (lt (shedCap c w r i) tolerance) ∷ []
+  told (shedding i) =
+      nvar c (activeOf c w r)
+      ∷ bit (sheds c w r i)
+      ∷ flat (inRows (blockStart c (pieces c w) (linearRows c w r) MuLb + i) (blockStart c (pieces c w) (linearRows c w r) MuUb + i) list)
   told (angle e) = figure (gammaUbOf c w e) ∷ []
   told (shed i) = figure (shedOf w i) ∷ figure (muLbOf w i) ∷ figure (muUbOf w i) ∷ []
   told (equality q) = bit (isEquality (rowLimits c w r q)) ∷ []
@@ -228,9 +235,9 @@ cases =
     ∷ case wiringB readingsB sheetB bookMatrix (45 ∷ lessFour ∷ lessFour ∷ four ∷ one ∷ [])
     ∷ case wiringB readingsB sheetB bookProgram (4 ∷ 10 ∷ 17 ∷ 1 ∷ [])
     -- B4: shedding on, demand 10^-7: a column, yet fixed. At the tolerance itself: a column, not fixed. At 0: no column, fixed
-    ∷ case shedOn (demandB small) sheetB (shedding 1) (5 ∷ 1 ∷ 1 ∷ [])
-    ∷ case shedOn (demandB tolerance) sheetB (shedding 1) (5 ∷ 1 ∷ 0 ∷ [])
-    ∷ case shedOn (demandB (whole 0)) sheetB (shedding 1) (4 ∷ 0 ∷ 1 ∷ [])
+    ∷ case shedOn (demandB small) sheetB (shedding 1) (5 ∷ 1 ∷ 13 ∷ 5 ∷ one ∷ 15 ∷ 15 ∷ one ∷ [])
+    ∷ case shedOn (demandB tolerance) sheetB (shedding 1) (5 ∷ 1 ∷ 13 ∷ 5 ∷ one ∷ 15 ∷ 15 ∷ 0x3eb0_c6f7_a0b5_ed8d ∷ [])
+    ∷ case shedOn (demandB (whole 0)) sheetB (shedding 1) (4 ∷ 0 ∷ 13 ∷ 5 ∷ one ∷ 15 ∷ 15 ∷ one ∷ [])
     -- B5: angmax equal to the tolerance, both angles 0, gamma_ub 1: kept
     ∷ case wiringB nearReadings nearSheet (angle 0) (one ∷ [])
     -- B6: cap 1, shed equal to the tolerance: shed kept, both mu 0

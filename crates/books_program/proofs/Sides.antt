@@ -8,17 +8,15 @@ use native.Mathlib.Omega.{arith}
 use lib.ListN.{getD}
 use lib.Dec.{eqb}
 use lib.Ieee.{Float, nan, eq, neg}
-use Rattle.float64.specs.Values.{nought, addAt, subAt}
-use Rattle.sequence.specs.Lists.{turns}
 use Rattle.sequence.proofs.Lists.{each-at, map-at}
 use Rattle.network.specs.declared.Counts.{Counts}
 use Rattle.network.specs.declared.Field.the-variants.{BaseMva, UpperMw, LowerMw}
-use Rattle.network.specs.declared.Part.the-variants.{GeneratorFlags, ThermalFlags, AngleFlags, BrFrom, BrTo, Masks}
+use Rattle.network.specs.declared.Part.the-variants.{GeneratorFlags, ThermalFlags, AngleFlags, Masks}
 use Rattle.network.specs.Layout.{allowShed, wire, place, reading, segmentStart}
 use Rattle.model.specs.declared.RowLimits.{RowLimits}
 use Rattle.model.specs.declared.RowLimits.the-variants.{None, Upper, Lower, Both, Equal}
 use Rattle.model.specs.Rows.{bothOf, limitsOf, rowLimits}
-use Rattle.model.specs.Quantities.{flowOffset, phaseTurn, phase, networkAt, fixedAt}
+use Rattle.model.specs.Quantities.{flowOffset, fixedAt}
 use Rattle.snapping.specs.Expr.{unit, lessUnit}
 use Rattle.opf_layout.specs.declared.OpfRow.{OpfRow}
 use Rattle.opf_layout.specs.declared.OpfRow.the-variants.{Balance, FlowRow, Reference, LineUb, LineLb, GenUb, GenLb, ShedUb, ShedLb, PhaseUb, PhaseLb, Segment, LinearEqual, LinearLimit}
@@ -28,11 +26,11 @@ use Rattle.opf_layout.proofs.Blocks.{row-of-rank, row-rank-below}
 use Rattle.opf_assembly.specs.Assembly.{perUnit, equalSide, limitSides, rightSides, rowWords, bSheet}
 use Rattle.opf_assembly.proofs.Lengths.{equal-long, limit-long, row-long}
 use Rattle.books.specs.Forms.{Form}
-use Rattle.books.specs.Forms.Form.{_⊕_, _⊖_}
-use Rattle.books.specs.Manual.{Site, balance, flowLaw, reference, flowFloor, flowCeiling, generatorFloor, generatorCeiling, shedFloor, shedCeiling, angleFloor, angleCeiling, segment, rowCeiling, rowFloor, rowLevel, busShiftTo, shiftFlow, upper, lower}
+use Rattle.books.specs.Manual.{Site, balance, flowLaw, reference, flowFloor, flowCeiling, generatorFloor, generatorCeiling, shedFloor, shedCeiling, angleFloor, angleCeiling, segment, rowCeiling, rowFloor, rowLevel, upper, lower}
 use Rattle.books.specs.Matrix.{Doubles}
 use Rattle.books_program.specs.Rows.{site}
 use Rattle.books_program.specs.Program.{constant}
+use Rattle.books.proofs.Model.{fixed-is}
 use Rattle.books.proofs.Doubles.{one-by, less-by, div-neg}
 use Rattle.books_program.proofs.Runs.{block-at, one-at, rank-at}
 
@@ -76,23 +74,8 @@ module _ (c : Counts) (w : List ℕ) (r : List Float) (ti : List ℕ) (tc : List
 
   -- ---- balance
 
-  shift-turn : (f t : Bool) (e : ℕ) (x : Float) (y : Form) → x ≡ worth y
-      → subAt t (flowOffset c r e) (addAt f (flowOffset c r e) x) ≡ worth (cond t (cond f (y ⊕ shiftFlow own e) y ⊖ shiftFlow own e) (cond f (y ⊕ shiftFlow own e) y))
-  unfolding flowOffset
-  shift-turn true true e x y h = rw h
-  shift-turn true false e x y h = rw h
-  shift-turn false true e x y h = rw h
-  shift-turn false false e x y h = h
-
-  shift-is : (i n : ℕ) → turns (phaseTurn c w r i) nought n ≡ worth (busShiftTo own i n)
-  unfolding turns phaseTurn busShiftTo
-  shift-is i zero = refl
-  shift-is i (suc e) =
-      shift-turn (eqb (wire c w BrFrom e) i) (eqb (wire c w BrTo e) i) e (turns (phaseTurn c w r i) nought e) (busShiftTo own i e) (shift-is i e)
-
   pub balance-side : (i : ℕ) → i < c .buses → side Balance i ≡ worth (balance own i .right)
-  unfolding fixedAt networkAt phase
-  balance-side i l = row-word Balance i l ∙ one-at (fixedAt c w r) (c .buses) i nan l ∙ rw (shift-is i (c .branches))
+  balance-side i l = row-word Balance i l ∙ one-at (fixedAt c w r) (c .buses) i nan l ∙ fixed-is own r (λ p. nan) i
 
   pub flow-side : (e : ℕ) → e < c .branches → side FlowRow e ≡ worth (flowLaw own e .right)
   unfolding flowOffset

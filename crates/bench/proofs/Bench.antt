@@ -2,16 +2,18 @@
 -- Main results: `bench`, `comes-out`. Assumes nothing.
 use Prim.Native.Nat.{ℕ}
 use mathlib.Core.Path.{_≡_, refl, ap₂}
-use mathlib.Core.Bool.{Bool, true, false, _&&_}
+use mathlib.Core.Bool.{true}
 use mathlib.Core.List.{List, [], _∷_}
 use lib.Dec.{eqb}
-use lib.Ieee.{binary64, ofInt, ofBits, toBits, neg, add, sub, mul, div, eq, lt, le}
+use lib.Ieee.{ofInt, ofBits, toBits, neg, add, sub, mul, div, eq, lt, le}
 use borrow.Author.Tests.{eqb-true}
 use Rattle.float64.specs.Values.{whole, tolerance, rawLimit, sheetLimit, parameterLimit, baseLow, baseHigh, finite, magnitude, within, inRange, maxZero}
 use Rattle.sequence.specs.Answers.{firstOf, marked, fills}
 use Rattle.sequence.specs.Lists.{before, every, some, each, when, made, turns, front}
 use Rattle.sequence.specs.Sheets.{emit, put1, puts, lays}
 use Rattle.sequence.proofs.Lists.{and-left, and-right}
+use Rattle.sequence.specs.Facts.{All}
+use Rattle.sequence.specs.Facts.All.{done, _&_}
 use Rattle.words.specs.Words.{joined}
 use Rattle.network.specs.Layout.{partStart, wire, fieldStart, place, reading, segmentStart, termStart}
 use Rattle.network.specs.Numbers.{few, lengthsHold, sumsHold, sizesHold, partHolds, flowTermsHold, generationTermsHold, termsHold, wiringHolds, inRank, fieldHolds, allWithin, readingsHold, networkNumber}
@@ -20,10 +22,9 @@ use Rattle.model.specs.Rows.{rowLimits}
 use Rattle.solution.specs.Sheet.{pieceRank, entryStart, solved}
 use Rattle.kkt_index.specs.Index.{linearStart, blockStart, dim}
 use Rattle.solution_check.specs.Tests.{solutionLong, solutionHolds}
+use Rattle.snapping.specs.Snap.{snapSheet, plainWords}
 use Rattle.kkt.specs.Matrix.{emitted, kktList}
 use Rattle.kkt.specs.Slots.{branchParts, referenceSlot, columns, slots}
-use Rattle.kkt_laws.specs.Laws.{All}
-use Rattle.kkt_laws.specs.Laws.All.{done, _&_}
 use Rattle.sens_dc.specs.Calls.{matrixNumber}
 use Rattle.change_table.specs.Table.{namedCells, among}
 use Rattle.job_book.specs.Book.{ownTests, byNumber, numberOf, step}
@@ -31,10 +32,16 @@ use Rattle.opf_layout.specs.Layout.{activeRank, sheds, equalityRank, inequality
 use Rattle.opf_assembly.specs.Assembly.{tripletsBy, aEntries, quadTriplets}
 use Rattle.parameter_column.specs.Columns.{wordOf, valued, columnWords}
 use Rattle.site_text.specs.Text.{printed, firstLine, tripletLine, tripletsIn, places}
-use Rattle.bench.specs.Cases.{Case, flat, asked, cases, same, agree}
+use Rattle.books.specs.Convex.{against, constraintEntries, hessianEntries}
+use Rattle.books.specs.Manual.{program, constraints, bbusTo}
+use Rattle.books.specs.Matrix.{cellValues}
+use Rattle.books_residual.specs.Residual.{residual}
+use Rattle.books_program.specs.Rows.{rowed}
+use Rattle.books_program.specs.Program.{termValues}
+use Rattle.bench.specs.Cases.{Case, flat, placeIn, nonzero, present, valued as counted, rowEntries, variables, asked, cases, same, agree}
 
 pub bench : agree cases ≡ true
-unfolding agree same cases flat printed firstLine tripletLine tripletsIn places ofInt ofBits toBits neg add sub mul div eq lt le whole tolerance rawLimit sheetLimit parameterLimit baseLow baseHigh finite magnitude within inRange maxZero firstOf marked fills before every some each when made turns front emit put1 puts lays joined partStart wire fieldStart place reading segmentStart termStart few lengthsHold sumsHold sizesHold partHolds flowTermsHold generationTermsHold termsHold wiringHolds inRank fieldHolds allWithin readingsHold networkNumber shedCap rowLimits pieceRank entryStart solved linearStart blockStart dim solutionLong solutionHolds emitted kktList branchParts referenceSlot columns slots matrixNumber namedCells among ownTests byNumber numberOf step activeRank sheds equalityRank inequalityRank activeOf columnStart nvar rowStart ncon tripletsBy aEntries quadTriplets wordOf valued columnWords
+unfolding agree same cases flat printed firstLine tripletLine tripletsIn places ofInt ofBits toBits neg add sub mul div eq lt le whole tolerance rawLimit sheetLimit parameterLimit baseLow baseHigh finite magnitude within inRange maxZero firstOf marked fills before every some each when made turns front emit put1 puts lays joined partStart wire fieldStart place reading segmentStart termStart few lengthsHold sumsHold sizesHold partHolds flowTermsHold generationTermsHold termsHold wiringHolds inRank fieldHolds allWithin readingsHold networkNumber shedCap rowLimits pieceRank entryStart solved linearStart blockStart dim solutionLong solutionHolds emitted kktList branchParts referenceSlot columns slots matrixNumber namedCells among ownTests byNumber numberOf step activeRank sheds equalityRank inequalityRank activeOf columnStart nvar rowStart ncon tripletsBy aEntries quadTriplets wordOf valued columnWords placeIn nonzero present counted rowEntries variables snapSheet plainWords against constraintEntries hessianEntries program constraints bbusTo cellValues residual rowed termValues
 bench = refl
 
 -- ---- from the test to the rule

@@ -1,39 +1,55 @@
 -- Document 01's "Bench network", B1 to B11, as one array of cases: each a network and a sheet, what is asked of them, and what must come out. A double is asked and told by its bits, a test by 1 or 0.
+-- B1 to B3 are asked of the port's definitions and of the two books'.
 -- Main definitions: `Question`, `Case`, `asked`, `cases`, `agree`. Assumes nothing.
-use Prim.Native.Nat.{ℕ}
-use mathlib.Core.Bool.{Bool, true, false, cond, _&&_}
+use Prim.Native.Nat.{ℕ, suc, _+_}
+use mathlib.Core.Bool.{Bool, true, false, cond, _&&_, _||_}
 use mathlib.Core.List.{List, [], _∷_, _++_, map}
-use lib.ListN.{length, take}
+use lib.ListN.{length, take, set}
 use lib.Dec.{eqb}
-use lib.Ieee.{Float, binary64, neg, div, lt, toBits, ofBits}
+use lib.Ieee.{Float, binary64, neg, div, eq, toBits}
 use Rattle.float64.specs.Values.{nought, whole, tolerance}
+use Rattle.sequence.specs.Lists.{each, when}
 use Rattle.sequence.specs.Sheets.{Triplet}
 use Rattle.network.specs.declared.Counts.{Counts}
 use Rattle.network.specs.Layout.{countsOf, reading}
 use Rattle.model.specs.Rows.{rowLimits, isEquality}
-use Rattle.model.specs.Quantities.{shedCap}
+use Rattle.solution.specs.NetworkB.{wiringB, readingsB, sheetB}
 use Rattle.solution.specs.Sheet.{pieces, solved}
-use Rattle.kkt_index.specs.declared.Block.the-variants.{NuBal, Eta}
+use Rattle.kkt_index.specs.declared.Block.the-variants.{Va, MuLb, MuUb, NuBal, NuFlow, Eta}
 use Rattle.kkt_index.specs.Index.{linearRows, blockStart, dim}
 use Rattle.snapping.specs.Expr.{Expr, eval}
 use Rattle.snapping.specs.Snap.{shedOf, muLbOf, muUbOf, gammaUbOf}
 use Rattle.kkt.specs.Slots.Rule.{firstPlace}
 use Rattle.kkt.specs.Matrix.{kktList}
+use Rattle.opf_layout.specs.declared.OpfColumn.{OpfColumn}
 use Rattle.opf_layout.specs.declared.OpfRow.the-variants.{LineUb, LineLb, PhaseUb, PhaseLb}
-use Rattle.opf_layout.specs.Layout.{sheds, activeOf, nvar, ncon, rowStart}
-use Rattle.opf_assembly.specs.Assembly.{aTriplets, pTriplets}
+use Rattle.opf_layout.specs.Layout.{sheds, activeOf, columns, nvar, ncon, rowSize, rowStart}
+use Rattle.opf_assembly.specs.Assembly.{aTriplets, pTriplets, columnElements}
 use Rattle.parameter_column.specs.declared.Served.the-variants.{Demand}
 use Rattle.parameter_column.specs.Columns.{columnWords}
 use Rattle.site_text.specs.Text.{printed}
+use Rattle.books.specs.Forms.{Place, Form}
+use Rattle.books.specs.Convex.{Entry, Gradient, matrixOf}
+use Rattle.books.specs.Manual as manual
+use Rattle.books.specs.Matrix.{samePlace, cellValues, siteOf, value}
+use Rattle.books_residual.specs.Residual.{Row, residual}
+use Rattle.books_program.specs.Rows.{Rowed, site, rowed}
+use Rattle.books_program.specs.Program.{termValues, constant, variable, hasColumn}
 
 pub data Question : Type 0 where
   -- dim, and where nu_bal and eta start
   blocks : Question
   -- how many triplets the matrix has, and its first four: row, column, value
   matrix : Question
-  -- the assembly's columns, rows, triplets of A and of P; the rows where thermal and angle limits start, upper and lower
+  -- the assembly's columns, rows, triplets of A and of P; of the thermal and the angle limits, upper and lower, the first row and how many there are
   program : Question
-  -- of a bus: whether it has a shed column, and whether the matrix fixes it
+  -- of the book's residual: how many rows it has, and where nu_bal and eta start
+  bookBlocks : Question
+  -- of the book's matrix: how many values are not zero, and in the column of bus 0's angle those at nu_flow 0, nu_bal 0 and 1, eta 0
+  bookMatrix : Question
+  -- of the manual's program: how many rows, entries of A and entries of P it has
+  bookProgram : Question
+  -- of a bus: how many columns the assembly has, whether one is its own, and the triplets in the rows mu_lb and mu_ub of the matrix: those of a fixed bus are both 1
   shedding : ℕ → Question
   -- of a branch: gamma_ub, snapped
   angle : ℕ → Question
@@ -68,7 +84,55 @@ unfoldable pub flat : List Triplet → List ℕ
 flat [] = []
 flat (t ∷ ts) = t .row ∷ t .col ∷ bits (t .value) ∷ flat ts
 
+-- the triplets in two rows
+unfoldable pub inRows : ℕ → ℕ → List Triplet → List Triplet
+inRows a b [] = []
+inRows a b (t ∷ ts) = when (eqb (t .row) a || eqb (t .row) b) (t ∷ []) ++ inRows a b ts
+
+-- where a row of the residual stands
+unfoldable pub placeIn : Place → List Row → ℕ
+placeIn p [] = 0
+placeIn p (x ∷ xs) = cond (samePlace (x .0) p) 0 (suc (placeIn p xs))
+
+-- how many entries have a value that is not zero
+unfoldable pub nonzero : (Form → Float) → List Entry → ℕ
+nonzero v [] = 0
+nonzero v (x ∷ xs) = cond (eq (v (x .what)) nought) 0 1 + nonzero v xs
+
+-- how many constraints have a row
+unfoldable pub present : List Rowed → ℕ
+present [] = 0
+present (x ∷ xs) = bit (x .present) + present xs
+
+-- how many values a gradient has at these variables
+unfoldable pub valued : (Form → Float) → Gradient → List Place → ℕ
+valued v g [] = 0
+valued v g (p ∷ ps) = length (termValues v g p) + valued v g ps
+
+unfoldable pub rowEntries : (Form → Float) → List Place → List Rowed → ℕ
+rowEntries v ps [] = 0
+rowEntries v ps (x ∷ xs) = cond (x .present) (valued v (x .constraint .gradient) ps) 0 + rowEntries v ps xs
+
 module _ (c : Counts) (w : List ℕ) (r s : List Float) where
+  -- the books' residual and matrix, the references' multipliers 0
+  abbrev pub bookRows : List Row
+  bookRows = residual (siteOf c w r [] [] s)
+
+  abbrev pub worth : Form → Float
+  worth x = value c w r [] [] s (λ k. nought) x
+
+  abbrev pub bookEntries : List Entry
+  bookEntries = matrixOf (manual.program (siteOf c w r [] [] s))
+
+  abbrev pub cell : Place → Place → List Float
+  cell a b = cellValues worth bookEntries a b
+
+  -- the assembly's columns, as the manual's variables
+  unfoldable pub variables : List OpfColumn → List Place
+  variables [] = []
+  variables (k ∷ ks) =
+      each (columnElements c k) (λ j. when (hasColumn c w r [] [] k j) (variable c w r [] [] k j ∷ [])) ++ variables ks
+
   abbrev pub list : List Triplet
   list = kktList firstPlace c w r [] [] s
 
@@ -87,12 +151,25 @@ module _ (c : Counts) (w : List ℕ) (r s : List Float) where
       ∷ ncon c (activeOf c w r)
       ∷ length (aTriplets c w r [] [])
       ∷ length (pTriplets c w r)
-      ∷ rowStart c (activeOf c w r) LineUb
-      ∷ rowStart c (activeOf c w r) LineLb
-      ∷ rowStart c (activeOf c w r) PhaseUb
-      ∷ rowStart c (activeOf c w r) PhaseLb
+      ∷ rowStart c (activeOf c w r) LineUb ∷ rowSize c (activeOf c w r) LineUb
+      ∷ rowStart c (activeOf c w r) LineLb ∷ rowSize c (activeOf c w r) LineLb
+      ∷ rowStart c (activeOf c w r) PhaseUb ∷ rowSize c (activeOf c w r) PhaseUb
+      ∷ rowStart c (activeOf c w r) PhaseLb ∷ rowSize c (activeOf c w r) PhaseLb
       ∷ []
-  told (shedding i) = bit (sheds c w r i) ∷ bit (lt (shedCap c w r i) tolerance) ∷ []
+  told bookBlocks = length bookRows ∷ placeIn (NuBal, 0) bookRows ∷ placeIn (Eta, 0) bookRows ∷ []
+  told bookMatrix =
+      nonzero worth bookEntries
+      ∷ map bits (cell (NuFlow, 0) (Va, 0) ++ (cell (NuBal, 0) (Va, 0) ++ (cell (NuBal, 1) (Va, 0) ++ cell (Eta, 0) (Va, 0))))
+  told bookProgram =
+      length (variables columns)
+      ∷ present (rowed c w r [] [])
+      ∷ rowEntries (constant c w r [] []) (variables columns) (rowed c w r [] [])
+      ∷ length (manual.program (site c w r [] []) .hessian)
+      ∷ []
+  told (shedding i) =
+      nvar c (activeOf c w r)
+      ∷ bit (sheds c w r i)
+      ∷ flat (inRows (blockStart c (pieces c w) (linearRows c w r) MuLb + i) (blockStart c (pieces c w) (linearRows c w r) MuUb + i) list)
   told (angle e) = figure (gammaUbOf c w e) ∷ []
   told (shed i) = figure (shedOf w i) ∷ figure (muLbOf w i) ∷ figure (muUbOf w i) ∷ []
   told (equality q) = bit (isEquality (rowLimits c w r q)) ∷ []
@@ -104,34 +181,24 @@ asked x = told (countsOf (x .wiring)) (x .wiring) (x .readings) (x .sheet) (x .q
 
 -- ---- network B, with what the cases change of it
 
--- "n 2, m 1, k 1, R 1 (bus 0), no S, q, T; allow_shed 0, objective 1; branch 0 to 1, generator at 0, all flags 1"
-abbrev wiringBy : ℕ → List ℕ
-wiringBy allow = 2 ∷ 1 ∷ 1 ∷ 1 ∷ 0 ∷ 0 ∷ 0 ∷ allow ∷ 1 ∷ 0 ∷ 1 ∷ 0 ∷ 0 ∷ 0 ∷ 1 ∷ 1 ∷ 1 ∷ []
+-- allow_shed 1
+abbrev shedOn : List ℕ
+shedOn = set wiringB 7 1
 
-abbrev half : Float
-half = div binary64 (whole 1) (whole 2)
+-- bus 1's demand
+abbrev demandB : Float → List Float
+demandB x = set readingsB 16 x
 
--- "base 100, b -4, sw 1, shift and offset 0, fmax 4, angles -0.5 and 0.5, gmin 0, gmax 2, cq 1, cl and cc 0, c_shed 3 3, demand 0 1, shunt and HVDC 0"
-abbrev readingsBy : Float → Float → List Float
-readingsBy angmax demand =
-    whole 100 ∷ neg (whole 4) ∷ whole 1 ∷ whole 0 ∷ whole 0 ∷ whole 4 ∷ neg half ∷ angmax ∷ whole 0 ∷ whole 2 ∷ whole 1 ∷ whole 0 ∷ whole 0 ∷ whole 3 ∷ whole 3 ∷ whole 0 ∷ demand ∷ whole 0 ∷ whole 0 ∷ whole 0 ∷ whole 0 ∷ []
+-- the tolerance as angmax; both angles 0, and gamma_ub 1
+abbrev nearReadings : List Float
+nearReadings = set readingsB 7 tolerance
 
--- "va 0 -0.25, pg 1, f 1, psh 0 0, nu_bal 2 2, mu_lb 1 1, objective 1, all else 0"
-abbrev sheetBy : Float → Float → Float → List Float
-sheetBy va psh gamma =
-    whole 0 ∷ va ∷ whole 1 ∷ whole 1 ∷ whole 0 ∷ psh ∷ whole 2 ∷ whole 2 ∷ whole 0 ∷ whole 0 ∷ whole 0 ∷ whole 0 ∷ whole 0 ∷ whole 0 ∷ whole 1 ∷ whole 1 ∷ gamma ∷ whole 0 ∷ whole 1 ∷ []
+abbrev nearSheet : List Float
+nearSheet = set (set sheetB 1 (whole 0)) 16 (whole 1)
 
-abbrev quarter : Float
-quarter = div binary64 (whole 1) (whole 4)
-
-abbrev wiringB : List ℕ
-wiringB = wiringBy 0
-
-abbrev readingsB : List Float
-readingsB = readingsBy half (whole 1)
-
-abbrev sheetB : List Float
-sheetB = sheetBy (neg quarter) (whole 0) (whole 0)
+-- bus 1's shed demand
+abbrev shedSheet : List Float
+shedSheet = set sheetB 5 tolerance
 
 -- 10^-7, 1 divided by 10,000,000
 abbrev small : Float
@@ -149,6 +216,10 @@ one = 0x3ff0_0000_0000_0000
 abbrev lessOne : ℕ
 lessOne = 0xbff0_0000_0000_0000
 
+-- one linear row with both limits, and nothing else
+abbrev oneRow : List ℕ
+oneRow = 0 ∷ 0 ∷ 0 ∷ 0 ∷ 0 ∷ 1 ∷ 0 ∷ 0 ∷ 1 ∷ 3 ∷ 0 ∷ 0 ∷ []
+
 -- ---- the array
 
 unfoldable pub cases : List Case
@@ -158,17 +229,22 @@ cases =
     -- B2: 45 triplets, the first four (18,0,-4), (16,0,-4), (17,0,4), (19,0,1)
     ∷ case wiringB readingsB sheetB matrix (45 ∷ 18 ∷ 0 ∷ lessFour ∷ 16 ∷ 0 ∷ lessFour ∷ 17 ∷ 0 ∷ four ∷ 19 ∷ 0 ∷ one ∷ [])
     -- B3: 4 columns, 10 rows, 17 triplets of A, 1 of P; the thermal rows are 4 and 5, the angle rows 8 and 9
-    ∷ case wiringB readingsB sheetB program (4 ∷ 10 ∷ 17 ∷ 1 ∷ 4 ∷ 5 ∷ 8 ∷ 9 ∷ [])
+    ∷ case wiringB readingsB sheetB program (4 ∷ 10 ∷ 17 ∷ 1 ∷ 4 ∷ 1 ∷ 5 ∷ 1 ∷ 8 ∷ 1 ∷ 9 ∷ 1 ∷ [])
+    -- B1 to B3 of the books: the same figures, where nu_flow starts at 18
+    ∷ case wiringB readingsB sheetB bookBlocks (20 ∷ 16 ∷ 19 ∷ [])
+    ∷ case wiringB readingsB sheetB bookMatrix (45 ∷ lessFour ∷ lessFour ∷ four ∷ one ∷ [])
+    ∷ case wiringB readingsB sheetB bookProgram (4 ∷ 10 ∷ 17 ∷ 1 ∷ [])
     -- B4: shedding on, demand 10^-7: a column, yet fixed. At the tolerance itself: a column, not fixed. At 0: no column, fixed
-    ∷ case (wiringBy 1) (readingsBy half small) sheetB (shedding 1) (1 ∷ 1 ∷ [])
-    ∷ case (wiringBy 1) (readingsBy half tolerance) sheetB (shedding 1) (1 ∷ 0 ∷ [])
-    ∷ case (wiringBy 1) (readingsBy half (whole 0)) sheetB (shedding 1) (0 ∷ 1 ∷ [])
+    ∷ case shedOn (demandB small) sheetB (shedding 1) (5 ∷ 1 ∷ 13 ∷ 5 ∷ one ∷ 15 ∷ 15 ∷ one ∷ [])
+    ∷ case shedOn (demandB tolerance) sheetB (shedding 1) (5 ∷ 1 ∷ 13 ∷ 5 ∷ one ∷ 15 ∷ 15 ∷ 0x3eb0_c6f7_a0b5_ed8d ∷ [])
+    ∷ case shedOn (demandB (whole 0)) sheetB (shedding 1) (4 ∷ 0 ∷ 13 ∷ 5 ∷ one ∷ 15 ∷ 15 ∷ one ∷ [])
     -- B5: angmax equal to the tolerance, both angles 0, gamma_ub 1: kept
-    ∷ case wiringB (readingsBy tolerance (whole 1)) (sheetBy (whole 0) (whole 0) (whole 1)) (angle 0) (one ∷ [])
+    ∷ case wiringB nearReadings nearSheet (angle 0) (one ∷ [])
     -- B6: cap 1, shed equal to the tolerance: shed kept, both mu 0
-    ∷ case (wiringBy 1) readingsB (sheetBy (neg quarter) tolerance (whole 0)) (shed 1) (0x3eb0_c6f7_a0b5_ed8d ∷ 0 ∷ 0 ∷ [])
-    -- B7: limits -0 and +0: equality
-    ∷ case (0 ∷ 0 ∷ 0 ∷ 0 ∷ 0 ∷ 1 ∷ 0 ∷ 0 ∷ 1 ∷ 3 ∷ 0 ∷ 0 ∷ []) (whole 100 ∷ nought ∷ neg nought ∷ []) [] (equality 0) (1 ∷ [])
+    ∷ case shedOn readingsB shedSheet (shed 1) (0x3eb0_c6f7_a0b5_ed8d ∷ 0 ∷ 0 ∷ [])
+    -- B7: limits -0 and +0: equality, either way round
+    ∷ case oneRow (whole 100 ∷ nought ∷ neg nought ∷ []) [] (equality 0) (1 ∷ [])
+    ∷ case oneRow (whole 100 ∷ neg nought ∷ nought ∷ []) [] (equality 0) (1 ∷ [])
     -- B8: demand column of bus 1: row 17 is -1, all others 0
     ∷ case wiringB readingsB sheetB (column 1)
     (0 ∷ 0 ∷ 0 ∷ 0 ∷ 0 ∷ 0 ∷ 0 ∷ 0 ∷ 0 ∷ 0 ∷ 0 ∷ 0 ∷ 0 ∷ 0 ∷ 0 ∷ 0 ∷ 0 ∷ lessOne ∷ 0 ∷ 0 ∷ [])

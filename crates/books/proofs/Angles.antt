@@ -7,6 +7,7 @@ use Prim.Native.Nat.{ℕ, _<_}
 use lib.Dec.{eqb}
 use lib.Ieee.{Float, binary64, mul, neg}
 use lib.Ieee.Fits.{mul-fits}
+use borrow.Author.Tests.{ne-eqb}
 use Rattle.float64.specs.Values as doubles
 use Rattle.float64.proofs.Signs.{neg-neg, mul-neg-left, mul-neg-right}
 use Rattle.sequence.specs.Lists.{when, some}
@@ -25,7 +26,7 @@ use Rattle.books.specs.Matrix.{spared}
 use Rattle.books.proofs.Cells.{values, values-each, values-point, values-when, both, held}
 use Rattle.books.proofs.Setting.{Setting, R, S, portSite, bookSite, portPoint, bookPoint}
 use Rattle.books.proofs.Book.{one}
-use Rattle.books.proofs.Pairs.{Agree, by-key, in-port, in-book, word, by-one, by-less, less-less, no-self, yes-self, never}
+use Rattle.books.proofs.Pairs.{Agree, by-key, in-port, in-book, word, by-one, by-less, less-less, yes-self, both-false}
 use Rattle.books.proofs.Balances.{va-at, no-incident, no-balance, no-reference}
 
 module _ (z : Setting) where
@@ -51,9 +52,9 @@ module _ (z : Setting) where
   gammaLb-turn : (i j e : ℕ) (b d : Bool) → values (portPoint z) (GammaLb, i) (Va, j) (ends j e b d) ≡ held (both (eqb e i) b) (mul binary64 (neg (lower e)) (neg (R z Sw e))) (held (both (eqb e i) d) (mul binary64 (neg (lower e)) (R z Sw e)) [])
   unfolding values when
   gammaLb-turn i j e true true = rw (yes-self j, gammaLb-from e, gammaLb-to e)
-  gammaLb-turn i j e true false = rw (yes-self j, never (eqb e i), gammaLb-from e)
-  gammaLb-turn i j e false true = rw (yes-self j, never (eqb e i), gammaLb-to e)
-  gammaLb-turn i j e false false = rw (never (eqb e i))
+  gammaLb-turn i j e true false = rw (yes-self j, both-false (eqb e i), gammaLb-from e)
+  gammaLb-turn i j e false true = rw (yes-self j, both-false (eqb e i), gammaLb-to e)
+  gammaLb-turn i j e false false = rw (both-false (eqb e i))
 
   pub gammaLb-va : (i j : ℕ) → j < z .counts .buses → Agree z (GammaLb, i) (Va, j)
   unfolding values constraintEntries against
@@ -74,9 +75,9 @@ module _ (z : Setting) where
   gammaUb-turn : (i j e : ℕ) (b d : Bool) → values (portPoint z) (GammaUb, i) (Va, j) (ends j e b d) ≡ held (both (eqb e i) b) (mul binary64 (neg (upper e)) (R z Sw e)) (held (both (eqb e i) d) (mul binary64 (neg (upper e)) (neg (R z Sw e))) [])
   unfolding values when
   gammaUb-turn i j e true true = rw (yes-self j, gammaUb-from e, gammaUb-to e)
-  gammaUb-turn i j e true false = rw (yes-self j, never (eqb e i), gammaUb-from e)
-  gammaUb-turn i j e false true = rw (yes-self j, never (eqb e i), gammaUb-to e)
-  gammaUb-turn i j e false false = rw (never (eqb e i))
+  gammaUb-turn i j e true false = rw (yes-self j, both-false (eqb e i), gammaUb-from e)
+  gammaUb-turn i j e false true = rw (yes-self j, both-false (eqb e i), gammaUb-to e)
+  gammaUb-turn i j e false false = rw (both-false (eqb e i))
 
   pub gammaUb-va : (i j : ℕ) → j < z .counts .buses → Agree z (GammaUb, i) (Va, j)
   unfolding values constraintEntries against
@@ -97,9 +98,9 @@ module _ (z : Setting) where
   nuFlow-turn : (i j e : ℕ) (b d : Bool) → values (portPoint z) (NuFlow, i) (Va, j) (ends j e b d) ≡ held (both (eqb e i) b) (neg (weight e)) (held (both (eqb e i) d) (weight e) [])
   unfolding values when
   nuFlow-turn i j e true true = rw (yes-self j, nuFlow-from e, nuFlow-to e)
-  nuFlow-turn i j e true false = rw (yes-self j, never (eqb e i), nuFlow-from e)
-  nuFlow-turn i j e false true = rw (yes-self j, never (eqb e i), nuFlow-to e)
-  nuFlow-turn i j e false false = rw (never (eqb e i))
+  nuFlow-turn i j e true false = rw (yes-self j, both-false (eqb e i), nuFlow-from e)
+  nuFlow-turn i j e false true = rw (yes-self j, both-false (eqb e i), nuFlow-to e)
+  nuFlow-turn i j e false false = rw (both-false (eqb e i))
 
   pub nuFlow-va : (i j : ℕ) → j < z .counts .buses → Agree z (NuFlow, i) (Va, j)
   unfolding values constraintEntries against
@@ -136,9 +137,9 @@ module _ (z : Setting) where
       ∙ va-at z (Eta, i) j g
       ∙ rw (no-incident z (Eta, i) j (λ e x. refl), no-balance z (Eta, i) j (λ r. refl))
       (values-point (portPoint z) (Eta, i) (Va, j) (z .counts .references) i (referenceSlot (z .rule) (z .counts) (z .wiring) j) h
-      (λ q l d. values-when (portPoint z) (Eta, i) (Va, j) (eqb (wire (z .counts) (z .wiring) References q) j && admits (z .rule) (seen j q)) _ (rw (no-self q i d)))
+      (λ q l d. values-when (portPoint z) (Eta, i) (Va, j) (eqb (wire (z .counts) (z .wiring) References q) j && admits (z .rule) (seen j q)) _ (rw (ne-eqb q i d)))
       ∙ reference-turn i j (admits (z .rule) (seen j i)) (eqb (wire (z .counts) (z .wiring) References i) j)
       ∙ ap (λ (t : Bool). when t (held (both true (eqb (wire (z .counts) (z .wiring) References i) j)) doubles.one [])) (sym (free-is (z .rule) i j))
       ∙ ap (when _) (sym (in-book z (Eta, i) (Va, j) _ refl
-      ∙ values-point (bookPoint z) (Eta, i) (Va, j) (z .counts .references) i (one (manual.reference (bookSite z))) h (λ q l d. rw (no-self q i d))
+      ∙ values-point (bookPoint z) (Eta, i) (Va, j) (z .counts .references) i (one (manual.reference (bookSite z))) h (λ q l d. rw (ne-eqb q i d))
       ∙ rw (yes-self i))))

@@ -6,9 +6,13 @@ use mathlib.Core.List.{List, [], _∷_, _++_, append-nil}
 use Prim.Native.Nat.{ℕ, _+_, _<_}
 use lib.Dec.{eqb}
 use lib.Ieee.{Float, neg}
+use borrow.Author.Tests.{ne-eqb}
 use Rattle.float64.specs.Values as doubles
 use Rattle.float64.proofs.Signs.{neg-neg}
 use Rattle.sequence.specs.Lists.{each, when}
+use Rattle.sequence.specs.Facts.{All}
+use Rattle.sequence.specs.Facts.All.{done, _&_}
+use Rattle.sequence.proofs.Facts.{all-append, all-each, all-when}
 use Rattle.network.specs.declared.Part.the-variants.{BrFrom, BrTo, GenBus}
 use Rattle.network.specs.Layout.{wire, segmentsAt, segmentStart}
 use Rattle.solution.specs.Sheet.{pieceRank}
@@ -16,9 +20,6 @@ use Rattle.kkt_index.specs.declared.Block.the-variants.{Va, Pg, Psh, NuBal, Eta
 use Rattle.snapping.specs.Expr.{Expr, eval, unit, lessUnit}
 use Rattle.snapping.specs.Expr.Expr.{minus}
 use Rattle.kkt.specs.Slots.{Slot, slot, balance, endSlots, incident, referenceSlot, pgSegment, columns}
-use Rattle.kkt_laws.specs.Laws.{All}
-use Rattle.kkt_laws.specs.Laws.All.{done, _&_}
-use Rattle.kkt_laws.proofs.Every.{all-append, all-each, all-when}
 use Rattle.books.specs.Forms.{Place}
 use Rattle.books.specs.Forms as forms
 use Rattle.books.specs.Forms.Form.{minus as opposite}
@@ -26,11 +27,11 @@ use Rattle.books.specs.Convex.{Gradient, Entry, against, constraintEntri
 use Rattle.books.specs.Convex.Kind.{equal}
 use Rattle.books.specs.Convex.Convention.{turned}
 use Rattle.books.specs.Manual as manual
-use Rattle.books.proofs.Zeros.{Alike, alike-neg}
+use Rattle.books.proofs.Zeros.{SameOrZeros, alike-neg}
 use Rattle.books.proofs.Cells.{values, values-append, values-each, values-none, values-point, values-when, same-when, other-column, both, held, held-alike}
 use Rattle.books.proofs.Setting.{Setting, R, S, portSite, bookSite, portPoint, bookPoint, worth}
 use Rattle.books.proofs.Book.{one, against-append, against-each, against-when}
-use Rattle.books.proofs.Pairs.{Agree, turns, by-key, no-self, yes-self, never}
+use Rattle.books.proofs.Pairs.{Agree, turns, by-key, yes-self, both-false}
 use Rattle.books.proofs.Susceptance.{sums-alike, turned-alike}
 
 nil-end : (l : List Float) → l ++ ([] ++ []) ≡ l
@@ -139,7 +140,7 @@ module _ (z : Setting) where
       (sym (balance-at (Pg, i) (NuBal, j) e ∙ rw (bus-none (Pg, i) (NuBal, j) e (λ r. refl)))))
 
   -- B_bus in the balances' columns, turned twice
-  turned-twice : (i r : ℕ) → Alike (eval (R z) (S z) (balance (z .counts) (z .wiring) r i)) (neg (neg (worth z (manual.bbus (bookSite z) i r))))
+  turned-twice : (i r : ℕ) → SameOrZeros (eval (R z) (S z) (balance (z .counts) (z .wiring) r i)) (neg (neg (worth z (manual.bbus (bookSite z) i r))))
   turned-twice i r = rw (neg-neg (worth z (manual.bbus (bookSite z) i r))) (turned-alike z i r (z .counts .branches))
 
   pub va-nuBal : (i j : ℕ) → Agree z (Va, i) (NuBal, j)
@@ -194,7 +195,7 @@ module _ (z : Setting) where
   bus-at : (i j e : ℕ) → j < z .counts .buses → values (bookPoint z) (NuBal, i) (Va, j) (busPart e) ≡ held (both (eqb e i) true) (neg (worth z (manual.bbus (bookSite z) e j))) []
   unfolding values against
   bus-at i j e h =
-      values-point (bookPoint z) (NuBal, i) (Va, j) (z .counts .buses) j _ h (λ q l d. rw (no-self q j d) (rw (never (eqb e i)))) ∙ rw (yes-self j)
+      values-point (bookPoint z) (NuBal, i) (Va, j) (z .counts .buses) j _ h (λ q l d. rw (ne-eqb q j d) (rw (both-false (eqb e i)))) ∙ rw (yes-self j)
 
   pub nuBal-va : (i j : ℕ) → j < z .counts .buses → Agree z (NuBal, i) (Va, j)
   unfolding values against
@@ -223,7 +224,7 @@ module _ (z : Setting) where
   unfolding values against
   gen-at i j h =
       values-point (bookPoint z) (NuBal, i) (Pg, j) (z .counts .generators) j _ h
-      (λ g l d. gen-turn (NuBal, i) (Pg, j) i g ∙ values-when (bookPoint z) (NuBal, i) (Pg, j) (eqb (wire (z .counts) (z .wiring) GenBus g) i) _ (rw (no-self g j d) (rw (never (eqb i i)))))
+      (λ g l d. gen-turn (NuBal, i) (Pg, j) i g ∙ values-when (bookPoint z) (NuBal, i) (Pg, j) (eqb (wire (z .counts) (z .wiring) GenBus g) i) _ (rw (ne-eqb g j d) (rw (both-false (eqb i i)))))
       ∙ gen-turn (NuBal, i) (Pg, j) i j
       ∙ gen-held i j (eqb (wire (z .counts) (z .wiring) GenBus j) i)
 
@@ -234,6 +235,6 @@ module _ (z : Setting) where
       (values-point (portPoint z) (NuBal, i) (Pg, j) (z .counts .generators) j (columns (portSite z) Pg) g (λ q l d. other-column (portPoint z) (NuBal, i) (Pg, j) q (pg-own q) d)
       ∙ rw (yes-self j, values-none (portPoint z) (NuBal, i) (Pg, j) (segmentsAt (z .counts) (z .wiring) j) (λ t. pgSegment j (pieceRank (z .counts) (z .wiring) j) (segmentStart (z .counts) (z .wiring) j + t)) (λ t l. refl))
       (sym (values-point (bookPoint z) (NuBal, i) (Pg, j) (z .counts .buses) i (one (manual.balance (bookSite z))) h
-      (λ e l d. balance-at (NuBal, i) (Pg, j) e ∙ rw (bus-none (NuBal, i) (Pg, j) e (λ r. refl), gen-none (NuBal, i) (Pg, j) e (λ q. rw (no-self e i d))))
+      (λ e l d. balance-at (NuBal, i) (Pg, j) e ∙ rw (bus-none (NuBal, i) (Pg, j) e (λ r. refl), gen-none (NuBal, i) (Pg, j) e (λ q. rw (ne-eqb e i d))))
       ∙ balance-at (NuBal, i) (Pg, j) i
       ∙ rw (bus-none (NuBal, i) (Pg, j) i (λ r. refl), gen-at i j g) (append-nil _))))

@@ -8,14 +8,14 @@ use lib.Dec.{T, eqb}
 use lib.Ieee.{Float, eq}
 use Rattle.float64.specs.Values.{nought}
 use Rattle.sequence.specs.Lists.{each, when}
+use Rattle.sequence.specs.Facts.{All}
+use Rattle.sequence.specs.Facts.All.{done, _&_}
+use Rattle.sequence.proofs.Facts.{all-append, all-each, all-when}
 use Rattle.network.specs.Layout.{segmentsAt}
 use Rattle.kkt_index.specs.declared.Block.{Block}
 use Rattle.kkt_index.specs.declared.Block.the-variants.{Va, Pg, Flow, Psh, Cost, LamLb, LamUb, GammaLb, GammaUb, RhoLb, RhoUb, MuLb, MuUb, Segments, Linear, NuBal, NuFlow, Eta}
 use Rattle.kkt_index.specs.Index.{Shape, rank}
 use Rattle.kkt_index.specs.Index.Shape.{free, upperOnly, lowerOnly, twoSided, equality}
-use Rattle.kkt_laws.specs.Laws.{All}
-use Rattle.kkt_laws.specs.Laws.All.{done, _&_}
-use Rattle.kkt_laws.proofs.Every.{all-append, all-each, all-when}
 use Rattle.books.specs.Forms.{Place, Form}
 use Rattle.books.specs.Forms.Form.{num}
 use Rattle.books.specs.Convex.{Gradient, Kind, Constraint, Entry, against, entriesOf, constraintEntries, hessianEntries, matrixOf}

@@ -12,14 +12,15 @@ use lib.Ieee.{Float, eq}
 use lib.ListN.{getD}
 use Rattle.float64.specs.Values.{nought}
 use Rattle.sequence.specs.Lists.{each, when}
+use Rattle.sequence.specs.Facts.{All}
+use Rattle.sequence.specs.Facts.All.{done, _&_}
 use Rattle.kkt_index.specs.declared.Block.{Block}
-use Rattle.kkt_index.specs.declared.Block.the-variants.{Va, Pg, Flow, Psh, Cost, LamLb, LamUb, GammaLb, GammaUb, RhoLb, RhoUb, MuLb, MuUb, Segments, Linear, NuBal, NuFlow, Eta}
+use Rattle.kkt_index.specs.declared.Block.the-variants.{Va}
 use Rattle.kkt_index.specs.Index.{rank, blocks}
-use Rattle.kkt_laws.specs.Laws.{All}
-use Rattle.kkt_laws.specs.Laws.All.{done, _&_}
+use Rattle.kkt_index.proofs.Blocks.{block-of-rank}
 use Rattle.books.specs.Forms.{Place}
-use Rattle.books.proofs.Zeros.{Alike}
-use Rattle.books.proofs.Zeros.Alike.{same, zeros}
+use Rattle.books.proofs.Zeros.{SameOrZeros}
+use Rattle.books.proofs.Zeros.SameOrZeros.{same, zeros}
 
 pub record Point : Type 0 where
   pub row : Place
@@ -46,7 +47,7 @@ held false x xs = xs
 abbrev pub hit : Place → Place → Place → Place → Bool
 hit p q r c = both (eqb (rank (p .0)) (rank (r .0))) (both (eqb (rank (q .0)) (rank (c .0))) (both (eqb (p .1) (r .1)) (eqb (q .1) (c .1))))
 
-pub held-alike : (b : Bool) (x y : Float) (xs : List Float) → Alike x y → held b x xs ≡ held b y xs
+pub held-alike : (b : Bool) (x y : Float) (xs : List Float) → SameOrZeros x y → held b x xs ≡ held b y xs
 held-alike b x y xs same = refl
 held-alike true x y xs (zeros p q) = rw (p, q)
 held-alike false x y xs (zeros p q) = refl
@@ -233,28 +234,8 @@ abbrev pub within : List Key → List Key → Bool
 within [] ls = true
 within (k ∷ ks) ls = both (has ls (rank (k .0)) (rank (k .1))) (within ks ls)
 
-ranked : (g : Block) → getD blocks (rank g) Va ≡ g
-ranked Va = refl
-ranked Pg = refl
-ranked Flow = refl
-ranked Psh = refl
-ranked Cost = refl
-ranked LamLb = refl
-ranked LamUb = refl
-ranked GammaLb = refl
-ranked GammaUb = refl
-ranked RhoLb = refl
-ranked RhoUb = refl
-ranked MuLb = refl
-ranked MuUb = refl
-ranked Segments = refl
-ranked Linear = refl
-ranked NuBal = refl
-ranked NuFlow = refl
-ranked Eta = refl
-
 pub one-rank : (f g : Block) → rank f ≡ rank g → f ≡ g
-one-rank f g e = sym (ranked f) ∙ ap (λ (k : ℕ). getD blocks k Va) e ∙ ranked g
+one-rank f g e = sym (block-of-rank f) ∙ ap (λ (k : ℕ). getD blocks k Va) e ∙ block-of-rank g
 
 -- what holds of every key holds of the pair of blocks that one names
 pub find : (P : Block → Block → Type 0) (ks : List Key) (g h : Block) → All (λ k. P (k .0) (k .1)) ks → T (has ks (rank g) (rank h)) → P g h

@@ -2,23 +2,22 @@
 -- Two doubles are alike where they are one value or two zeros. Main results: `one-by`, `less-by`, `div-neg`, `add-neg`, `plainly`, `alike-then`. Assumes nothing.
 use mathlib.Core.Path.{_≡_, refl, sym, ap, _∙_}
 use mathlib.Core.Bool.{Bool, true, false, not, cond, _&&_}
-use Prim.Native.Nat.{ℕ, zero, suc, _+_, _-_, _*_, _^_, _<_}
+use Prim.Native.Nat.{ℕ, _+_, _-_, _*_, _<_}
 use native.Mathlib.Nat.{one-mul, mul-pos}
 use native.Mathlib.Decide.{decLt}
 use native.Mathlib.Omega.{arith}
 use lib.IntN.{pos}
 use lib.Dec.{T, ltb, eqb}
-use lib.Ieee.{Float, nan, inf, fin, Format, binary64, prec, emax, low, up, down, odd, units, round, neg, add, sub, sum, mul, div, eq, fits, unlike, ofBits}
+use lib.Ieee.{Float, nan, inf, fin, binary64, up, down, round, neg, add, sub, sum, mul, div, eq, fits, unlike, ofBits}
 use lib.Ieee.Fits.{down-pos, neg-fits}
 use lib.Ieee.Bits.{ofBits-fits}
-use lib.Ieee.Scale.{round-same}
 use borrow.Author.Tests.{lt-ltb, le-ltb}
 use Rattle.float64.specs.Values.{nought, one}
-use Rattle.float64.proofs.Signs.{mul-neg-left, round-back}
+use Rattle.float64.proofs.Signs.{mul-neg-left, round-back, round-neg, unlike-left}
 use Rattle.float64.proofs.Zeros.{nought-add}
-use Rattle.books.specs.Forms as forms
-use Rattle.books.proofs.Zeros.{Alike, alike-skip-add, alike-skip-sub, alike-neg}
-use Rattle.books.proofs.Zeros.Alike.{same, zeros}
+use Rattle.books.specs.Forms.{Alike}
+use Rattle.books.proofs.Zeros.{SameOrZeros, alike-skip-add, alike-skip-sub, alike-neg, round-none}
+use Rattle.books.proofs.Zeros.SameOrZeros.{same, zeros}
 
 -- ---- products by 1 and −1
 
@@ -42,29 +41,6 @@ less-by x h = mul-neg-left one x ∙ ap neg (one-by x h)
 
 -- ---- changes of sign
 
-odd-neg : (d : ℕ) (s : Bool) (q k l : ℕ) → neg (odd d s q k l) ≡ odd d (not s) q k l
-unfolding neg odd
-odd-neg d s zero k l = refl
-odd-neg d s (suc q) k l = refl
-
-units-neg : (f : Format) (s : Bool) (q k : ℕ) → neg (units f s q k) ≡ units f (not s) q k
-unfolding units neg
-units-neg f s q k = go (ltb (q * 2 ^ k) (2 ^ (low f + suc (emax f))))
-  where
-    go : (b : Bool) → neg (cond b (odd (suc (prec f)) s q k (low f)) (inf s)) ≡ cond b (odd (suc (prec f)) (not s) q k (low f)) (inf (not s))
-    go true = odd-neg (suc (prec f)) s q k (low f)
-    go false = refl
-
-round-neg : (f : Format) (s : Bool) (a b : ℕ) → neg (round f s a b) ≡ round f (not s) a b
-unfolding round
-round-neg f s a b = units-neg f s _ _
-
-unlike-left : (s t : Bool) → unlike (not s) t ≡ not (unlike s t)
-unlike-left true true = refl
-unlike-left true false = refl
-unlike-left false true = refl
-unlike-left false false = refl
-
 -- (−x) / y = −(x / y)
 pub div-neg : (x y : Float) → div binary64 (neg x) y ≡ neg (div binary64 x y)
 unfolding div neg
@@ -85,23 +61,23 @@ div-neg (fin s m e) (fin t n d) = rw (unlike-left s t) (go (eqb n 0) (eqb m 0))
 
 -- ---- values that are alike
 
-pub alike-back : {x y : Float} → Alike x y → Alike y x
+pub alike-back : {x y : Float} → SameOrZeros x y → SameOrZeros y x
 alike-back same = same
 alike-back (zeros p q) = zeros q p
 
 -- a value that is alike to a zero is one
-pub zero-of : {x y : Float} → Alike x y → eq x nought ≡ true → eq y nought ≡ true
+pub zero-of : {x y : Float} → SameOrZeros x y → eq x nought ≡ true → eq y nought ≡ true
 zero-of same e = e
 zero-of (zeros p q) e = q
 
-pub alike-then : {x y z : Float} → Alike x y → Alike y z → Alike x z
+pub alike-then : {x y z : Float} → SameOrZeros x y → SameOrZeros y z → SameOrZeros x z
 alike-then same b = b
 alike-then (zeros p q) b = zeros p (zero-of b q)
 
-pub alike-is : {x y : Float} → x ≡ y → Alike x y
+pub alike-is : {x y : Float} → x ≡ y → SameOrZeros x y
 alike-is {x} e = rw (← e) same
 
-pub plainly : {x y : Float} → Alike x y → forms.Alike x y
+pub plainly : {x y : Float} → SameOrZeros x y → Alike x y
 plainly same = refl
 plainly (zeros p q) = rw (p, q)
 
@@ -114,32 +90,24 @@ none-zero = refl
 pub nought-fits : T (fits binary64 nought)
 nought-fits = ofBits-fits binary64 0
 
-pub plus-none : (x : Float) → T (fits binary64 x) → Alike x (add binary64 x nought)
+pub plus-none : (x : Float) → T (fits binary64 x) → SameOrZeros x (add binary64 x nought)
 plus-none x h = alike-skip-add x x nought h none-zero same
 
-pub less-none : (x : Float) → T (fits binary64 x) → Alike x (sub binary64 x nought)
+pub less-none : (x : Float) → T (fits binary64 x) → SameOrZeros x (sub binary64 x nought)
 less-none x h = alike-skip-sub x x nought h none-zero same
 
-pub none-plus : (x : Float) → T (fits binary64 x) → Alike x (add binary64 nought x)
+pub none-plus : (x : Float) → T (fits binary64 x) → SameOrZeros x (add binary64 nought x)
 none-plus x h = go (eq x nought) refl
   where
-    go : (b : Bool) → eq x nought ≡ b → Alike x (add binary64 nought x)
+    go : (b : Bool) → eq x nought ≡ b → SameOrZeros x (add binary64 nought x)
     go true e = zeros e (zero-of (alike-skip-add nought nought x nought-fits e same) none-zero)
     go false e = alike-is (sym (nought-add x h e))
 
-pub none-less : (x : Float) → T (fits binary64 x) → Alike (neg x) (sub binary64 nought x)
+pub none-less : (x : Float) → T (fits binary64 x) → SameOrZeros (neg x) (sub binary64 nought x)
 unfolding sub
 none-less x h = none-plus (neg x) (neg-fits binary64 x h)
 
 -- ---- a sum of negatives
-
-one-none : (s : Bool) → eq (round binary64 s 0 1) nought ≡ true
-unfolding round eq ofBits
-one-none true = refl
-one-none false = refl
-
-round-none : (s : Bool) (a c : ℕ) → a ≡ 0 → 0 < c → eq (round binary64 s a c) nought ≡ true
-round-none s a c e h = rw (e, round-same binary64 s 0 c 0 1 h (omega arith) (omega arith)) (one-none s)
 
 pub less-zero : eq (neg nought) nought ≡ true
 unfolding eq neg ofBits
@@ -153,43 +121,43 @@ unequal true s a b c = round binary64 (not s) (b - a) c
 unequal false s a b c = round binary64 (s && ltb b a) (a - b) c
 
 -- of unlike signs, s and its other
-sum-unlike : (s : Bool) (a b c : ℕ) → 0 < c → Alike (unequal (ltb a b) (not s) a b c) (neg (unequal (ltb a b) s a b c))
+sum-unlike : (s : Bool) (a b c : ℕ) → 0 < c → SameOrZeros (unequal (ltb a b) (not s) a b c) (neg (unequal (ltb a b) s a b c))
 sum-unlike s a b c h = go (decLt a b) (decLt b a)
   where
-    turn : (t : Bool) (n : ℕ) → Alike (round binary64 (not t) n c) (neg (round binary64 t n c))
+    turn : (t : Bool) (n : ℕ) → SameOrZeros (round binary64 (not t) n c) (neg (round binary64 t n c))
     turn t n = alike-is (sym (round-neg binary64 t n c))
 
-    above : (t : Bool) → Alike (round binary64 (not t && true) (a - b) c) (neg (round binary64 (t && true) (a - b) c))
+    above : (t : Bool) → SameOrZeros (round binary64 (not t && true) (a - b) c) (neg (round binary64 (t && true) (a - b) c))
     above true = turn true (a - b)
     above false = turn false (a - b)
 
-    level : (t : Bool) → a ≡ b → Alike (round binary64 (not t && false) (a - b) c) (neg (round binary64 (t && false) (a - b) c))
+    level : (t : Bool) → a ≡ b → SameOrZeros (round binary64 (not t && false) (a - b) c) (neg (round binary64 (t && false) (a - b) c))
     level t e = zeros (round-none (not t && false) (a - b) c (omega arith) h) (neg-none _ (round-none (t && false) (a - b) c (omega arith) h))
 
-    go : Dec (a < b) → Dec (b < a) → Alike (unequal (ltb a b) (not s) a b c) (neg (unequal (ltb a b) s a b c))
+    go : Dec (a < b) → Dec (b < a) → SameOrZeros (unequal (ltb a b) (not s) a b c) (neg (unequal (ltb a b) s a b c))
     go (yes l) d = rw (lt-ltb a b l) (turn (not s) (b - a))
     go (no l) (yes d) = rw (le-ltb a b (omega arith), lt-ltb b a d) (above s)
     go (no l) (no d) = rw (le-ltb a b (omega arith), le-ltb b a (omega arith)) (level s (omega arith))
 
-sum-neg : (s t : Bool) (a b c : ℕ) → 0 < c → Alike (sum binary64 (not s) a (not t) b c) (neg (sum binary64 s a t b c))
+sum-neg : (s t : Bool) (a b c : ℕ) → 0 < c → SameOrZeros (sum binary64 (not s) a (not t) b c) (neg (sum binary64 s a t b c))
 unfolding sum
 sum-neg true true a b c h = alike-is (sym (round-neg binary64 true (a + b) c))
 sum-neg false false a b c h = alike-is (sym (round-neg binary64 false (a + b) c))
 sum-neg true false a b c h = go (ltb a b) (sum-unlike true a b c h)
   where
-    go : (l : Bool) → Alike (unequal l false a b c) (neg (unequal l true a b c))
-        → Alike (cond l (round binary64 true (b - a) c) (round binary64 (false && ltb b a) (a - b) c)) (neg (cond l (round binary64 false (b - a) c) (round binary64 (true && ltb b a) (a - b) c)))
+    go : (l : Bool) → SameOrZeros (unequal l false a b c) (neg (unequal l true a b c))
+        → SameOrZeros (cond l (round binary64 true (b - a) c) (round binary64 (false && ltb b a) (a - b) c)) (neg (cond l (round binary64 false (b - a) c) (round binary64 (true && ltb b a) (a - b) c)))
     go true x = x
     go false x = x
 sum-neg false true a b c h = go (ltb a b) (sum-unlike false a b c h)
   where
-    go : (l : Bool) → Alike (unequal l true a b c) (neg (unequal l false a b c))
-        → Alike (cond l (round binary64 false (b - a) c) (round binary64 (true && ltb b a) (a - b) c)) (neg (cond l (round binary64 true (b - a) c) (round binary64 (false && ltb b a) (a - b) c)))
+    go : (l : Bool) → SameOrZeros (unequal l true a b c) (neg (unequal l false a b c))
+        → SameOrZeros (cond l (round binary64 false (b - a) c) (round binary64 (true && ltb b a) (a - b) c)) (neg (cond l (round binary64 true (b - a) c) (round binary64 (false && ltb b a) (a - b) c)))
     go true x = x
     go false x = x
 
 -- (−x) + (−y) is −(x + y), but for a zero's sign
-pub add-neg : (x y : Float) → Alike (add binary64 (neg x) (neg y)) (neg (add binary64 x y))
+pub add-neg : (x y : Float) → SameOrZeros (add binary64 (neg x) (neg y)) (neg (add binary64 x y))
 unfolding add neg
 add-neg nan y = same
 add-neg (inf s) nan = same

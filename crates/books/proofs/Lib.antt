@@ -12,7 +12,7 @@ pub mod Sheds
 pub mod Segments
 pub mod Rows
 pub mod Susceptance
+pub mod Model
 pub mod Balances
 pub mod Angles
 pub mod Whole
-pub mod Bench

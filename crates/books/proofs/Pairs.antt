@@ -4,10 +4,10 @@ use mathlib.Core.Path.{_≡_, refl, sym, ap, _∙_}
 use mathlib.Core.Bool.{Bool, true, false}
 use mathlib.Core.List.{List, [], _∷_, append-nil}
 use Prim.Native.Nat.{ℕ, _+_, _<_}
-use lib.Dec.{T, eqb, eqb→eq, eqb-refl, not-T}
+use lib.Dec.{T, eqb}
 use lib.Ieee.{Float, binary64, mul, neg, ofBits, fits}
-use lib.Ieee.Bits.{is-true, is-false}
 use lib.Ieee.Fits.{neg-fits}
+use borrow.Author.Tests.{eq-eqb}
 use Rattle.float64.specs.Values.{one}
 use Rattle.float64.proofs.Signs.{neg-neg, mul-neg-left, mul-neg-right, mul-one-right, mul-less-one}
 use Rattle.sequence.specs.Lists.{each}
@@ -49,15 +49,12 @@ less-less x y = mul-neg-left x (neg y) ∙ ap neg (mul-neg-right x y) ∙ neg-ne
 
 -- ---- tests
 
-pub no-self : (q j : ℕ) → (q ≡ j → ⊥) → eqb q j ≡ false
-no-self q j d = is-false (eqb q j) (not-T (eqb q j) (λ t. d (eqb→eq q j t)))
-
 pub yes-self : (j : ℕ) → eqb j j ≡ true
-yes-self j = is-true (eqb j j) (eqb-refl j)
+yes-self j = eq-eqb j j refl
 
-pub never : (b : Bool) → both b false ≡ false
-never true = refl
-never false = refl
+pub both-false : (b : Bool) → both b false ≡ false
+both-false true = refl
+both-false false = refl
 
 module _ (z : Setting) where
   -- a word of the solution sheet is a double

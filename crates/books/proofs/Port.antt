@@ -11,6 +11,9 @@ use borrow.Author.Tests.{eq-eqb, ne-eqb, eqb-true}
 use Rattle.float64.specs.Values.{nought}
 use Rattle.sequence.specs.Lists.{each, when}
 use Rattle.sequence.specs.Sheets.{Triplet, triplet, emit}
+use Rattle.sequence.specs.Facts.{All}
+use Rattle.sequence.specs.Facts.All.{done, _&_}
+use Rattle.sequence.proofs.Facts.{all-append, all-each, all-when}
 use Rattle.network.specs.declared.Counts.{Counts}
 use Rattle.solution.specs.Sheet.{pieces}
 use Rattle.kkt_index.specs.declared.Block.{Block}
@@ -22,9 +25,6 @@ use Rattle.kkt.specs.declared.Side.{Side}
 use Rattle.kkt.specs.declared.Side.the-variants.{Above, Below, Level}
 use Rattle.kkt.specs.Slots.{Place, Slot, blockSlots, columns, slots, rowSlots, sideSlots, diagonal, referenceSlot, startOf}
 use Rattle.kkt.specs.Matrix.{emitted, kktList}
-use Rattle.kkt_laws.specs.Laws.{All}
-use Rattle.kkt_laws.specs.Laws.All.{done, _&_}
-use Rattle.kkt_laws.proofs.Every.{all-append, all-each, all-when}
 use Rattle.kkt_laws.proofs.Range
 use Rattle.change_table.specs.Table.{Cell, sameCell, valuesAt}
 use Rattle.books.specs.Matrix.{Inside}

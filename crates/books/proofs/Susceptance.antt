@@ -18,8 +18,8 @@ use Rattle.snapping.specs.Expr.{Expr, eval}
 use Rattle.kkt.specs.Slots.{gatherAt, branchPart, branchParts}
 use Rattle.books.specs.Forms.{Form}
 use Rattle.books.specs.Manual as manual
-use Rattle.books.proofs.Zeros.{Alike, alike-add, alike-sub, alike-skip-add, alike-skip-sub}
-use Rattle.books.proofs.Zeros.Alike.{same}
+use Rattle.books.proofs.Zeros.{SameOrZeros, alike-add, alike-sub, alike-skip-add, alike-skip-sub}
+use Rattle.books.proofs.Zeros.SameOrZeros.{same}
 use Rattle.books.proofs.Setting.{Setting, R, S, bookSite, worth}
 
 turned : (a b : ℕ) → eqb a b ≡ eqb b a
@@ -48,17 +48,17 @@ module _ (z : Setting) where
 
   -- ---- one product
 
-  up-alike : (b : Bool) (x y w : Float) → eq w nought ≡ b → T (fits binary64 w) → T (fits binary64 y) → Alike x y → Alike (cond b x (add binary64 x w)) (add binary64 y w)
+  up-alike : (b : Bool) (x y w : Float) → eq w nought ≡ b → T (fits binary64 w) → T (fits binary64 y) → SameOrZeros x y → SameOrZeros (cond b x (add binary64 x w)) (add binary64 y w)
   up-alike true x y w e h k a = alike-skip-add x y w k e a
   up-alike false x y w e h k a = alike-add x y w h a
 
-  down-alike : (b : Bool) (x y w : Float) → eq w nought ≡ b → T (fits binary64 w) → T (fits binary64 y) → Alike x y → Alike (cond b x (sub binary64 x w)) (sub binary64 y w)
+  down-alike : (b : Bool) (x y w : Float) → eq w nought ≡ b → T (fits binary64 w) → T (fits binary64 y) → SameOrZeros x y → SameOrZeros (cond b x (sub binary64 x w)) (sub binary64 y w)
   down-alike true x y w e h k a = alike-skip-sub x y w k e a
   down-alike false x y w e h k a = alike-sub x y w h a
 
   -- the two sums are alike, and the manual's is a double
   abbrev Goes : Expr → Form → Type 0
-  Goes x y = T (fits binary64 (worth z y)) × Alike (eval (R z) (S z) x) (worth z y)
+  Goes x y = T (fits binary64 (worth z y)) × SameOrZeros (eval (R z) (S z) x) (worth z y)
 
   product-goes : (b up : Bool) (e : ℕ) (x : Expr) (y : Form) → Goes x y → Goes (gatherAt b up e x) (manual.product (bookSite z) b up e y)
   product-goes false up e x y h = h
@@ -81,7 +81,7 @@ module _ (z : Setting) where
         (product-goes (m (to e) (from e)) false e _ _
         (product-goes (m (from e) (to e)) false e _ _ (product-goes (m (to e) (to e)) true e _ _ (product-goes (m (from e) (from e)) true e _ _ (sums-go e)))))
 
-    pub sums-alike : (t : ℕ) → Alike (eval (R z) (S z) (branchParts (z .counts) (z .wiring) i j t)) (worth z (manual.bbusTo (bookSite z) i j t))
+    pub sums-alike : (t : ℕ) → SameOrZeros (eval (R z) (S z) (branchParts (z .counts) (z .wiring) i j t)) (worth z (manual.bbusTo (bookSite z) i j t))
     sums-alike t = sums-go t .1
 
   -- ---- the matrix is symmetric
@@ -115,5 +115,5 @@ module _ (z : Setting) where
       ∙ ap (branchPart (z .counts) (z .wiring) j i e) (symmetric i j e)
 
   -- the port's sum of the transposed cell
-  pub turned-alike : (i j t : ℕ) → Alike (eval (R z) (S z) (branchParts (z .counts) (z .wiring) j i t)) (worth z (manual.bbusTo (bookSite z) i j t))
+  pub turned-alike : (i j t : ℕ) → SameOrZeros (eval (R z) (S z) (branchParts (z .counts) (z .wiring) j i t)) (worth z (manual.bbusTo (bookSite z) i j t))
   turned-alike i j t = rw (symmetric j i t) (sums-alike i j t)

@@ -7,6 +7,8 @@ use Prim.Native.Nat.{ℕ, _<_}
 use lib.Dec.{T, eqb}
 use lib.Ieee.{Float}
 use Rattle.sequence.specs.Lists.{when}
+use Rattle.sequence.specs.Facts.{All}
+use Rattle.sequence.specs.Facts.All.{done, _&_}
 use Rattle.network.specs.declared.Counts.{Counts}
 use Rattle.network.specs.Numbers.{Network, Wired, Termed, Accepted}
 use Rattle.solution.specs.Sheet.{pieces}
@@ -15,8 +17,6 @@ use Rattle.kkt_index.specs.declared.Block.the-variants.{Va, Pg, Flow, Psh, Cost
 use Rattle.kkt_index.specs.Index.{rank, size, linearRows}
 use Rattle.kkt.specs.Slots.{Slot, Rule, slots}
 use Rattle.kkt.specs.Slots.Rule.{firstPlace, everyPlace}
-use Rattle.kkt_laws.specs.Laws.{All}
-use Rattle.kkt_laws.specs.Laws.All.{done, _&_}
 use Rattle.books.specs.Forms.{Place}
 use Rattle.books.specs.Convex.{Entry, matrixOf}
 use Rattle.books.specs.Manual.{program}

@@ -1,141 +1,41 @@
 -- The words of the snapped sheet and of the linear rows' multipliers, each by its place: the figure that the port's expression has.
 -- Main results: `plain-word`, `segment-word`, `linear-word`. Assumes nothing.
 use mathlib.Core.Path.{_≡_, refl, sym, ap, _∙_}
-use mathlib.Core.List.{List, [], _∷_, _++_, map}
-use Prim.Native.Nat.{ℕ, zero, suc, _+_, _<_}
-use native.Mathlib.Nat.{not-suc-le-zero, le-of-suc-le-suc}
-use native.Mathlib.Decide.{ℕ-discrete}
+use mathlib.Core.List.{List}
+use Prim.Native.Nat.{ℕ, _+_, _<_}
 use native.Mathlib.Omega.{arith}
-use lib.ListN.{length, getD, length-append, List·getD-append}
-use lib.Seq.{getD-append-add}
+use lib.ListN.{length, getD}
 use lib.Ieee.{Float, nan}
-use Rattle.sequence.specs.Layout.{start}
-use Rattle.sequence.specs.Lists.{before, each}
-use Rattle.sequence.proofs.Lists.{made-length, made-at, before-within}
+use Rattle.sequence.specs.Lists.{before}
+use Rattle.sequence.proofs.Lists.{made-at, before-within, each-at, map-at}
+use Rattle.sequence.proofs.Blocks.{before-start}
 use Rattle.network.specs.declared.Counts.{Counts}
 use Rattle.network.specs.Layout.{reading, segmentsAt, segmentStart}
 use Rattle.network.specs.Numbers.{Wired}
 use Rattle.model.specs.Rows.{rowLimits}
 use Rattle.solution.specs.declared.Entry.{Entry}
-use Rattle.solution.specs.declared.Entry.the-variants.{Va, Pg, Flow, Psh, NuBal, LamUb, LamLb, RhoUb, RhoLb, MuUb, MuLb, GammaUb, GammaLb, Epigraph, SegmentDual, LinearDual, LinearValue, Objective}
+use Rattle.solution.specs.declared.Entry.the-variants.{Va, SegmentDual}
 use Rattle.solution.specs.Sheet.{entries, rank, size, sizes, pieceRank, pieces, solved}
+use Rattle.solution.proofs.Entries.{entry-size, entry-of-rank, rank-below}
 use Rattle.kkt_index.specs.Index.{Shape, shapeOf, width}
 use Rattle.kkt_index.specs.Index.Shape.{free, upperOnly, lowerOnly, twoSided, equality}
 use Rattle.snapping.specs.declared.LinearDuals.{LinearDuals}
 use Rattle.snapping.specs.Expr.{eval}
 use Rattle.snapping.specs.Snap.{segmentDual, snappedAt, segmentWords, plainWords, entryWords, snapSheet, duals}
+use Rattle.snapping.proofs.Words.{segment-long, entry-long}
 use Rattle.books.specs.Matrix.{sidesOf, linearWords}
-
--- ---- runs of words, one after the other
-
-module _ {A : Type 0} where
-  each-long : (f : ℕ → List A) (g : ℕ → ℕ) (n : ℕ) → ((i : ℕ) → i < n → length (f i) ≡ g i) → length (each n f) ≡ before g n
-  unfolding each before
-  each-long f g zero h = refl
-  each-long f g (suc n) h =
-      length-append (each n f) (f n) ∙ rw (each-long f g n (λ i l. h i (omega arith)), h n (omega arith))
-
-  -- word t of run k
-  each-at : (f : ℕ → List A) (g : ℕ → ℕ) (n : ℕ) → ((i : ℕ) → i < n → length (f i) ≡ g i) → (k t : ℕ) (d : A) → k < n → t < g k → getD (each n f) (before g k + t) d ≡ getD (f k) t d
-  unfolding each
-  each-at f g zero h k t d l m = absurd (not-suc-le-zero l)
-  each-at f g (suc n) h k t d l m = go (ℕ-discrete k n) (each-at f g n (λ i p. h i (omega arith)) k t d)
-    where
-      long : length (each n f) ≡ before g n
-      long = each-long f g n (λ i q. h i (omega arith))
-
-      go : Dec (k ≡ n) → (k < n → t < g k → getD (each n f) (before g k + t) d ≡ getD (f k) t d) → getD (each n f ++ f n) (before g k + t) d ≡ getD (f k) t d
-      go (yes q) ih =
-          ap (λ (x : ℕ). getD (each n f ++ f n) (x + t) d) (ap (before g) q ∙ sym long)
-          ∙ getD-append-add (each n f) (f n) t d
-          ∙ ap (λ (x : ℕ). getD (f x) t d) (sym q)
-      go (no q) ih =
-          List·getD-append (each n f) (f n) d (before g k + t) (omega (arith, long, before-within g k n (omega arith)))
-          ∙ ih (omega arith) m
 
 -- ---- the sheet's entries
 
-map-at : (f : Entry → ℕ) (es : List Entry) (k : ℕ) → k < length es → getD (map f es) k 0 ≡ f (getD es k Va)
-map-at f [] k h = absurd (not-suc-le-zero h)
-map-at f (e ∷ es) zero h = refl
-map-at f (e ∷ es) (suc k) h = map-at f es k (le-of-suc-le-suc h)
-
-start-suc : (xs : List ℕ) (k : ℕ) → start xs (suc k) ≡ start xs k + getD xs k 0
-start-suc [] zero = refl
-start-suc [] (suc k) = refl
-start-suc (x ∷ xs) zero = omega arith
-start-suc (x ∷ xs) (suc k) = omega (arith, start-suc xs k)
-
-before-start : (xs : List ℕ) (k : ℕ) → before (λ i. getD xs i 0) k ≡ start xs k
-unfolding before
-before-start xs zero = refl
-before-start xs (suc k) = rw (before-start xs k) (sym (start-suc xs k))
-
--- an entry by its rank
-record Ranked (c : Counts) (p : ℕ) (e : Entry) : Type 0 where
-  below : rank e < 18
-  entry : getD entries (rank e) Va ≡ e
-  sized : getD (sizes c p) (rank e) 0 ≡ size c p e
-
-ranked : (c : Counts) (p : ℕ) (e : Entry) → Ranked c p e
-ranked c p Va = record { below = omega arith; entry = refl; sized = refl }
-ranked c p Pg = record { below = omega arith; entry = refl; sized = refl }
-ranked c p Flow = record { below = omega arith; entry = refl; sized = refl }
-ranked c p Psh = record { below = omega arith; entry = refl; sized = refl }
-ranked c p NuBal = record { below = omega arith; entry = refl; sized = refl }
-ranked c p LamUb = record { below = omega arith; entry = refl; sized = refl }
-ranked c p LamLb = record { below = omega arith; entry = refl; sized = refl }
-ranked c p RhoUb = record { below = omega arith; entry = refl; sized = refl }
-ranked c p RhoLb = record { below = omega arith; entry = refl; sized = refl }
-ranked c p MuUb = record { below = omega arith; entry = refl; sized = refl }
-ranked c p MuLb = record { below = omega arith; entry = refl; sized = refl }
-ranked c p GammaUb = record { below = omega arith; entry = refl; sized = refl }
-ranked c p GammaLb = record { below = omega arith; entry = refl; sized = refl }
-ranked c p Epigraph = record { below = omega arith; entry = refl; sized = refl }
-ranked c p SegmentDual = record { below = omega arith; entry = refl; sized = refl }
-ranked c p LinearDual = record { below = omega arith; entry = refl; sized = refl }
-ranked c p LinearValue = record { below = omega arith; entry = refl; sized = refl }
-ranked c p Objective = record { below = omega arith; entry = refl; sized = refl }
-
 module _ (c : Counts) (w : List ℕ) (p : ℕ) (r s : List Float) (h : Wired c w) where
-  plain-long : (e : Entry) → length (plainWords c w p r s e) ≡ size c p e
-  unfolding plainWords
-  plain-long e = made-length _ (size c p e)
-
-  segment-long : (j : ℕ) → length (segmentWords c w p r s j) ≡ segmentsAt c w j
-  unfolding segmentWords
-  segment-long j = made-length _ (segmentsAt c w j)
-
-  entry-long : (e : Entry) → length (entryWords c w p r s e) ≡ size c p e
-  entry-long Va = plain-long Va
-  entry-long Pg = plain-long Pg
-  entry-long Flow = plain-long Flow
-  entry-long Psh = plain-long Psh
-  entry-long NuBal = plain-long NuBal
-  entry-long LamUb = plain-long LamUb
-  entry-long LamLb = plain-long LamLb
-  entry-long RhoUb = plain-long RhoUb
-  entry-long RhoLb = plain-long RhoLb
-  entry-long MuUb = plain-long MuUb
-  entry-long MuLb = plain-long MuLb
-  entry-long GammaUb = plain-long GammaUb
-  entry-long GammaLb = plain-long GammaLb
-  entry-long Epigraph = plain-long Epigraph
-  entry-long SegmentDual =
-      each-long (segmentWords c w p r s) (segmentsAt c w) (c .generators) (λ j l. segment-long j) ∙ h .segments-sum
-  entry-long LinearDual = plain-long LinearDual
-  entry-long LinearValue = plain-long LinearValue
-  entry-long Objective = plain-long Objective
-
   word-at : (e : Entry) (i : ℕ) → i < size c p e → solved c p (snapSheet c w p r s) e i ≡ getD (entryWords c w p r s e) i nan
   unfolding solved snapSheet
   word-at e i l =
-      let k = ranked c p e in
       ap (λ (x : ℕ). getD (snapSheet c w p r s) (x + i) nan) (sym (before-start (sizes c p) (rank e)))
       ∙ each-at (λ k. entryWords c w p r s (getD entries k Va)) (λ k. getD (sizes c p) k 0) 18
-      (λ k l. entry-long (getD entries k Va) ∙ sym (map-at (size c p) entries k l))
-      (rank e) i nan (k .below) (rw (k .sized) l)
-      ∙ ap (λ (x : Entry). getD (entryWords c w p r s x) i nan) (k .entry)
+      (λ k l. entry-long c w p r s h (getD entries k Va) ∙ sym (map-at (size c p) entries k Va l))
+      (rank e) i nan (rank-below e) (rw (entry-size c p e) l)
+      ∙ ap (λ (x : Entry). getD (entryWords c w p r s x) i nan) (entry-of-rank e)
 
   -- a word of an entry that is not the segment duals'
   pub plain-word : (e : Entry) → entryWords c w p r s e ≡ plainWords c w p r s e → (i : ℕ) → i < size c p e
@@ -150,7 +50,7 @@ module _ (c : Counts) (w : List ℕ) (p : ℕ) (r s : List Float) (h : Wired c w
   unfolding segmentStart segmentWords
   segment-word j t l m =
       word-at SegmentDual (segmentStart c w j + t) (omega (arith, before-within (segmentsAt c w) j (c .generators) l, h .segments-sum))
-      ∙ each-at (segmentWords c w p r s) (segmentsAt c w) (c .generators) (λ j l. segment-long j) j t nan l m
+      ∙ each-at (segmentWords c w p r s) (segmentsAt c w) (c .generators) (λ j l. segment-long c w p r s j) j t nan l m
       ∙ made-at _ (segmentsAt c w j) t nan m
 
 -- ---- the linear rows

@@ -1,7 +1,7 @@
 -- Sums with a zero of either sign: a value that is no zero is left by it, two zeros make a zero.
 -- So two sums that differ only in zeros that one of them skips are alike: one value, or two zeros.
--- Main results: `Alike`, `alike-add`, `alike-sub`, `alike-skip-add`, `alike-skip-sub`, `alike-neg`. Assumes nothing.
-use mathlib.Core.Path.{_≡_, refl, sym, ap, _∙_, subst}
+-- Main results: `SameOrZeros`, `alike-add`, `alike-sub`, `alike-skip-add`, `alike-skip-sub`, `alike-neg`. Assumes nothing.
+use mathlib.Core.Path.{_≡_, refl, sym, ap, _∙_}
 use mathlib.Core.Bool.{Bool, true, false, not, Bool·beq, _&&_, _||_}
 use Prim.Native.Nat.{ℕ, zero, suc, _+_, _-_, _*_, _<_}
 use native.Mathlib.Nat.{mul-pos, mul-assoc, mul-comm, zero-lt-suc}
@@ -14,28 +14,23 @@ use lib.Ieee.Scale.{round-same}
 use borrow.Author.Tests.{lt-ltb, le-ltb, ne-eqb}
 use Rattle.float64.specs.Values.{nought}
 use Rattle.float64.proofs.Signs.{round-back}
+use Rattle.float64.proofs.Zeros.{zero-level}
+use Rattle.sequence.proofs.Lists.{never}
 
 -- ---- which values are zeros
-
-level-zero : (s : Bool) (a b : ℕ) → a ≡ 0 → b ≡ 0 → eqb a b && (Bool·beq s false || eqb a 0) ≡ true
-level-zero true a b p q = rw (p, q)
-level-zero false a b p q = rw (p, q)
 
 level-other : (s : Bool) (a b : ℕ) → 0 < a → b ≡ 0 → eqb a b && (Bool·beq s false || eqb a 0) ≡ false
 level-other s a b p q = rw (ne-eqb a b (λ e. absurd (omega arith)))
 
 is-zero : (s : Bool) (e : ℤ) → eq (fin s 0 e) nought ≡ true
 unfolding eq ofBits
-is-zero s e = level-zero s (0 * up e * 1) (0 * down e) (omega arith) (omega arith)
+is-zero s e = zero-level s (0 * up e * 1) (0 * down e) (omega arith) (omega arith)
 
 no-zero : (s : Bool) (m : ℕ) (e : ℤ) → eq (fin s (suc m) e) nought ≡ false
 unfolding eq ofBits
 no-zero s m e =
     let h : 0 < suc m * up e = mul-pos (zero-lt-suc m) (up-pos e) in
     level-other s (suc m * up e * 1) (0 * down e) (omega arith) (omega arith)
-
-never : {A : Type 0} → false ≡ true → A
-never e = absurd (subst T (sym e) tt)
 
 -- ---- a value that is no zero is left by a zero
 
@@ -79,7 +74,7 @@ unfolding round eq ofBits
 one-none true = refl
 one-none false = refl
 
-round-none : (s : Bool) (a c : ℕ) → a ≡ 0 → 0 < c → eq (round binary64 s a c) nought ≡ true
+pub round-none : (s : Bool) (a c : ℕ) → a ≡ 0 → 0 < c → eq (round binary64 s a c) nought ≡ true
 round-none s a c e h =
     rw (e, round-same binary64 s 0 c 0 1 h (omega arith) (omega arith)) (one-none s)
 
@@ -126,30 +121,30 @@ none-none x z (a-zero {s = s} {e = e}) (a-zero {s = t} {e = d}) = zero-zero s t 
 -- ---- sums that are alike
 
 -- one value, or two zeros
-pub data Alike : Float → Float → Type 0 where
-  same : {x : Float} → Alike x x
-  zeros : {x y : Float} → eq x nought ≡ true → eq y nought ≡ true → Alike x y
+pub data SameOrZeros : Float → Float → Type 0 where
+  same : {x : Float} → SameOrZeros x x
+  zeros : {x y : Float} → eq x nought ≡ true → eq y nought ≡ true → SameOrZeros x y
 
-alike-is : {x x′ y y′ : Float} → x ≡ x′ → y ≡ y′ → Alike x′ y′ → Alike x y
+alike-is : {x x′ y y′ : Float} → x ≡ x′ → y ≡ y′ → SameOrZeros x′ y′ → SameOrZeros x y
 alike-is p q h = rw (p, q) h
 
-pub alike-add : (x y z : Float) → T (fits binary64 z) → Alike x y → Alike (add binary64 x z) (add binary64 y z)
+pub alike-add : (x y z : Float) → T (fits binary64 z) → SameOrZeros x y → SameOrZeros (add binary64 x z) (add binary64 y z)
 alike-add x y z h same = same
 alike-add x y z h (zeros p q) = go (eq z nought) refl
   where
-    go : (b : Bool) → eq z nought ≡ b → Alike (add binary64 x z) (add binary64 y z)
+    go : (b : Bool) → eq z nought ≡ b → SameOrZeros (add binary64 x z) (add binary64 y z)
     go true e = zeros (none-none x z (zero-of x p) (zero-of z e)) (none-none y z (zero-of y q) (zero-of z e))
     go false e = alike-is (none-add x z h e (zero-of x p)) (none-add y z h e (zero-of y q)) same
 
-zero-left : (x y : Float) → eq y nought ≡ true → Alike x y → eq x nought ≡ true
+zero-left : (x y : Float) → eq y nought ≡ true → SameOrZeros x y → eq x nought ≡ true
 zero-left x y k same = k
 zero-left x y k (zeros p q) = p
 
 -- a zero that one of them skips
-pub alike-skip-add : (x y z : Float) → T (fits binary64 y) → eq z nought ≡ true → Alike x y → Alike x (add binary64 y z)
+pub alike-skip-add : (x y z : Float) → T (fits binary64 y) → eq z nought ≡ true → SameOrZeros x y → SameOrZeros x (add binary64 y z)
 alike-skip-add x y z h e a = go (eq y nought) refl
   where
-    go : (b : Bool) → eq y nought ≡ b → Alike x (add binary64 y z)
+    go : (b : Bool) → eq y nought ≡ b → SameOrZeros x (add binary64 y z)
     go false k = alike-is refl (add-none y z h k (zero-of z e)) a
     go true k = zeros (zero-left x y k a) (none-none y z (zero-of y k) (zero-of z e))
 
@@ -157,14 +152,14 @@ neg-zero : (x : Float) → Zero x → eq (neg x) nought ≡ true
 unfolding neg
 neg-zero x (a-zero {s = s} {e = e}) = is-zero (not s) e
 
-pub alike-sub : (x y z : Float) → T (fits binary64 z) → Alike x y → Alike (sub binary64 x z) (sub binary64 y z)
+pub alike-sub : (x y z : Float) → T (fits binary64 z) → SameOrZeros x y → SameOrZeros (sub binary64 x z) (sub binary64 y z)
 unfolding sub
 alike-sub x y z h a = alike-add x y (neg z) (neg-fits binary64 z h) a
 
-pub alike-skip-sub : (x y z : Float) → T (fits binary64 y) → eq z nought ≡ true → Alike x y → Alike x (sub binary64 y z)
+pub alike-skip-sub : (x y z : Float) → T (fits binary64 y) → eq z nought ≡ true → SameOrZeros x y → SameOrZeros x (sub binary64 y z)
 unfolding sub
 alike-skip-sub x y z h e a = alike-skip-add x y (neg z) h (neg-zero z (zero-of z e)) a
 
-pub alike-neg : (x y : Float) → Alike x y → Alike (neg x) (neg y)
+pub alike-neg : (x y : Float) → SameOrZeros x y → SameOrZeros (neg x) (neg y)
 alike-neg x y same = same
 alike-neg x y (zeros p q) = zeros (neg-zero x (zero-of x p)) (neg-zero y (zero-of y q))

@@ -3,3 +3,4 @@ pub mod Forms
 pub mod Convex
 pub mod Manual
 pub mod Matrix
+pub mod Model

@@ -7,13 +7,13 @@ use Prim.Native.Nat.{ℕ, zero, suc, _<_}
 use lib.Dec.{eqb}
 use Rattle.network.specs.Numbers.{Wired}
 use Rattle.exact.specs.Ring.{total, only}
-use Rattle.exact.proofs.Sums.{add-zero, total-same, total-add}
+use Rattle.exact.proofs.Sums.{add-zero, total-same, total-add, total-one}
 use Rattle.books.specs.Forms.{Place, Form, none}
 use Rattle.books.specs.Manual.{Site, from, to, weight, product, meets, bbusTo, bbus}
 use Rattle.books_residual.specs.Residual.{sumTo, given, ends}
 use Rattle.books_exact.specs.Exact.{World, Sound, exactOf, along}
 use Rattle.books_exact.proofs.Laws.{ring, four}
-use Rattle.books_exact.proofs.Sums.{mark, only-mark, mark-both, total-mul, total-neg, total-swap, mul-total, total-point′}
+use Rattle.books_exact.proofs.Sums.{mark, only-mark, mark-both, total-mul, total-neg, total-swap, mul-total}
 use Rattle.books_exact.proofs.Slacks.{derivative}
 
 module _ {A : Type 0} (𝓡 : CommRing A) (W : World A) where
@@ -106,7 +106,7 @@ module _ {A : Type 0} (𝓡 : CommRing A) (W : World A) where
         incident x e l =
             total-same 𝓡 _ _ _ (λ i m. point-ring (eqb (from s e) i) (eqb (to s e) i) (x i))
             ∙ total-add 𝓡 _ _ _
-            ∙ ap₂ _+_ (total-point′ 𝓡 x (from s e) _ (g .froms e l)) (sym (total-neg 𝓡 _ _) ∙ ap less (total-point′ 𝓡 x (to s e) _ (g .tos e l)))
+            ∙ ap₂ _+_ (total-one 𝓡 x (from s e) _ (g .froms e l)) (sym (total-neg 𝓡 _ _) ∙ ap less (total-one 𝓡 x (to s e) _ (g .tos e l)))
 
         move-ring : (p w q x : A) → p * (w * q) * x ≡ p * w * (q * x)
         move-ring p w q x = simp ring

@@ -9,16 +9,17 @@ use native.Mathlib.Nat.{add-zero as plus-zero}
 use native.Mathlib.Omega.{arith}
 use lib.Dec.{eqb, lit<}
 use lib.Ieee.{Float}
+use borrow.Author.Tests.{ne-eqb}
 use Rattle.float64.specs.Values.{whole}
+use Rattle.sequence.specs.Facts.{All}
+use Rattle.sequence.specs.Facts.All.{done, _&_}
+use Rattle.sequence.proofs.Facts.{all-append, all-each, all-when}
 use Rattle.network.specs.declared.Field.the-variants.{Cq}
 use Rattle.network.specs.Layout.{segmentsAt, segmentStart}
 use Rattle.kkt_index.specs.declared.Block.{Block}
 use Rattle.kkt_index.specs.declared.Block.the-variants.{Pg, LamLb, LamUb, GammaLb, GammaUb, RhoLb, RhoUb, MuLb, MuUb, Segments, Linear, NuBal, NuFlow, Eta}
 use Rattle.kkt_index.specs.Index.{Shape, rank, width}
 use Rattle.kkt_index.specs.Index.Shape.{free, upperOnly, lowerOnly, twoSided, equality}
-use Rattle.kkt_laws.specs.Laws.{All}
-use Rattle.kkt_laws.specs.Laws.All.{done, _&_}
-use Rattle.kkt_laws.proofs.Every.{all-append, all-each, all-when}
 use Rattle.exact.specs.Ring.{sum, total, only}
 use Rattle.exact.proofs.Sums.{zero-add, add-zero, zero-mul, total-same}
 use Rattle.books.specs.Forms.{Place, Form}
@@ -30,7 +31,7 @@ use Rattle.books.specs.Manual.{Site, program, constraints, balance, flowLaw, re
 use Rattle.books.specs.Matrix.{samePlace}
 use Rattle.books_exact.specs.Exact.{World, Sound, exactOf}
 use Rattle.books_exact.proofs.Laws.{neg-zero}
-use Rattle.books_exact.proofs.Sums.{eqb-other, sum-append, sum-each, sum-singles, only-both, only-off, total-only}
+use Rattle.books_exact.proofs.Sums.{sum-append, sum-each, sum-singles, only-both, only-off, total-only}
 use Rattle.books_exact.proofs.Applied.{applied, rowOf, coefficient, columnPart, columnOf, matrix-applied}
 
 -- ---- multipliers and variables
@@ -201,7 +202,7 @@ module _ {A : Type 0} (𝓡 : CommRing A) where
     unfolding sum only
     coefficient-none a done l = refl
     coefficient-none a (_&_ {x = x} h hs) l =
-        ap₂ _+_ (ap (λ (b : Bool). only 𝓡 (b && eqb (x .0 .1) (a .1)) (exactOf 𝓡 W (x .1))) (eqb-other (rank (x .0 .0)) (rank (a .0)) (λ e. omega arith))) (coefficient-none a hs l)
+        ap₂ _+_ (ap (λ (b : Bool). only 𝓡 (b && eqb (x .0 .1) (a .1)) (exactOf 𝓡 W (x .1))) (ne-eqb (rank (x .0 .0)) (rank (a .0)) (λ e. omega arith))) (coefficient-none a hs l)
         ∙ zero-add 𝓡 𝟘
 
     column-none : (k : Kind) (z : A) → columnPart 𝓡 W k 𝟘 * z ≡ 𝟘
@@ -221,7 +222,7 @@ module _ {A : Type 0} (𝓡 : CommRing A) where
       at-variable a (_&_ {x = c} h hs) l =
           ap₂ _+_
           (ap (λ (b : Bool). only 𝓡 (b && eqb (c .multiplier .1) (a .1)) (F c) + columnOf 𝓡 W c a * v (c .multiplier))
-          (eqb-other (rank (c .multiplier .0)) (rank (a .0)) (λ e. omega (arith, h .0)))
+          (ne-eqb (rank (c .multiplier .0)) (rank (a .0)) (λ e. omega (arith, h .0)))
           ∙ zero-add 𝓡 _)
           (at-variable a hs l)
 
@@ -242,7 +243,7 @@ module _ {A : Type 0} (𝓡 : CommRing A) where
       Curved a = total 𝓡 (λ j. only 𝓡 (samePlace (Pg, j) a) (exactOf 𝓡 W (num (whole 2) ⊗ rd Cq j) * v (Pg, j))) (s .counts .generators)
 
       pub curved-none : (a : Place) → 4 < rank (a .0) → Curved a ≡ 𝟘
-      curved-none a l = of-block Pg (λ j. j) _ _ a ∙ only-off 𝓡 _ _ (eqb-other (rank Pg) (rank (a .0)) (λ e. omega arith))
+      curved-none a l = of-block Pg (λ j. j) _ _ a ∙ only-off 𝓡 _ _ (ne-eqb (rank Pg) (rank (a .0)) (λ e. omega arith))
 
       whole-matrix : (a : Place) → applied 𝓡 W v (matrixOf (program s)) a ≡ Curved a + sum 𝓡 (Part (rowOf 𝓡 W v) a) (constraints s)
       unfolding program

@@ -3,9 +3,9 @@
 use mathlib.Core.Path.{_≡_, sym, _∙_}
 use mathlib.Core.List.{List, [], _∷_}
 use mathlib.Mathlib.Algebra.Ring.Defs.{CommRing}
+use Rattle.sequence.specs.Facts.{All}
+use Rattle.sequence.specs.Facts.All.{done, _&_}
 use Rattle.network.specs.Numbers.{Wired}
-use Rattle.kkt_laws.specs.Laws.{All}
-use Rattle.kkt_laws.specs.Laws.All.{done, _&_}
 use Rattle.exact.specs.Ring.{only}
 use Rattle.books.specs.Forms.{Place}
 use Rattle.books.specs.Convex.{matrixOf}

@@ -4,9 +4,9 @@ use mathlib.Core.Path.{_≡_, refl, ap, ap₂, _∙_}
 use mathlib.Core.Bool.{Bool, true, false}
 use mathlib.Core.List.{List, [], _∷_}
 use mathlib.Mathlib.Algebra.Ring.Defs.{CommRing}
+use Rattle.sequence.specs.Facts.{All}
+use Rattle.sequence.specs.Facts.All.{done, _&_}
 use Rattle.network.specs.Numbers.{Wired}
-use Rattle.kkt_laws.specs.Laws.{All}
-use Rattle.kkt_laws.specs.Laws.All.{done, _&_}
 use Rattle.exact.specs.Ring.{sum, only}
 use Rattle.exact.proofs.Sums.{add-zero}
 use Rattle.books.specs.Forms.{Place, Form}
@@ -16,7 +16,7 @@ use Rattle.books.specs.Manual.{Site, program}
 use Rattle.books.specs.Matrix.{samePlace}
 use Rattle.books_residual.specs.Residual.{Row, residual}
 use Rattle.books_exact.specs.Exact.{World, Sound, exactOf}
-use Rattle.books_exact.specs.Conditions.{pulled, own, bookResidual, Kept, stationarity, Optimal}
+use Rattle.books_exact.specs.Conditions.{pulled, own, bookResidual, Kept, Optimal}
 use Rattle.books_exact.proofs.Laws.{neg-zero}
 use Rattle.books_exact.proofs.Residual.{residual-is-the-books}
 

@@ -7,6 +7,7 @@ use mathlib.Mathlib.Algebra.Ring.Defs.{CommRing}
 use Prim.Native.Nat.{ℕ, _<_}
 use native.Mathlib.Omega.{arith}
 use lib.Dec.{eqb, lit<}
+use borrow.Author.Tests.{ne-eqb}
 use Rattle.float64.specs.Values.{whole}
 use Rattle.network.specs.declared.Field.the-variants.{Cq, Cl, CShed}
 use Rattle.network.specs.Layout.{segmentsAt}
@@ -27,7 +28,7 @@ use Rattle.books_residual.specs.Residual.{rowOf as residualRow}
 use Rattle.books_exact.specs.Exact.{World, Sound, exactOf}
 use Rattle.books_exact.specs.Conditions.{pulled, own, bookResidual, ResidualIs}
 use Rattle.books_exact.proofs.Laws.{units, ring}
-use Rattle.books_exact.proofs.Sums.{eqb-own, eqb-other, sum-append, sum-each, sum-singles, sum-alike, only-mark, only-both, only-on, only-off, total-only, total-at, total-point}
+use Rattle.books_exact.proofs.Sums.{eqb-own, sum-append, sum-each, sum-singles, sum-alike, only-mark, only-both, only-on, only-off, total-only, total-at, total-point}
 use Rattle.books_exact.proofs.Applied.{applied, coefficient, columnPart}
 use Rattle.books_exact.proofs.Families.{Own, Part, Curved, sided, of-block, at-variable, at-multiplier, curved-none, matrix-at-variable}
 use Rattle.books_exact.proofs.Slacks.{derivative, flow-floor-slack, flow-ceiling-slack, generator-floor-slack, generator-ceiling-slack, angle-floor-slack, angle-ceiling-slack, shed-floor-slack, shed-ceiling-slack, segment-slack, ceiling-slack, floor-slack, shed-lower, flow-law, reference-row, row-level}
@@ -145,7 +146,7 @@ module _ {A : Type 0} (𝓡 : CommRing A) (W : World A) where
         go false e = only-off 𝓡 _ _ (pieces-apart 𝓡 W h (W .unknown) s i j 0 d (above-none _ e) m)
 
     priced-own : (j : ℕ) → 0 < segmentsAt (s .counts) (s .wiring) j → priced (pieceRank (s .counts) (s .wiring) j) j ≡ exactOf 𝓡 W unit
-    priced-own j m = rw (eqb-other (segmentsAt (s .counts) (s .wiring) j) 0 (λ e. omega arith)) (only-on 𝓡 _ _ (eqb-own (pieceRank (s .counts) (s .wiring) j)))
+    priced-own j m = rw (ne-eqb (segmentsAt (s .counts) (s .wiring) j) 0 (λ e. omega arith)) (only-on 𝓡 _ _ (eqb-own (pieceRank (s .counts) (s .wiring) j)))
 
     costs-cost : (j : ℕ) → j < s .counts .generators → 0 < segmentsAt (s .counts) (s .wiring) j → Costs (Cost, pieceRank (s .counts) (s .wiring) j) ≡ exactOf 𝓡 W unit
     unfolding only
@@ -156,8 +157,8 @@ module _ {A : Type 0} (𝓡 : CommRing A) (W : World A) where
     costs-none : (a : Place) → 4 < rank (a .0) → Costs a ≡ 𝟘
     costs-none a l =
         costs-at a
-        ∙ ap₂ _+_ (only-off 𝓡 _ _ (eqb-other (rank Pg) (rank (a .0)) (λ e. omega arith)))
-        (ap₂ _+_ (only-off 𝓡 _ _ (eqb-other (rank Psh) (rank (a .0)) (λ e. omega arith))) (only-off 𝓡 _ _ (eqb-other (rank Cost) (rank (a .0)) (λ e. omega arith))))
+        ∙ ap₂ _+_ (only-off 𝓡 _ _ (ne-eqb (rank Pg) (rank (a .0)) (λ e. omega arith)))
+        (ap₂ _+_ (only-off 𝓡 _ _ (ne-eqb (rank Psh) (rank (a .0)) (λ e. omega arith))) (only-off 𝓡 _ _ (ne-eqb (rank Cost) (rank (a .0)) (λ e. omega arith))))
         ∙ simp units
 
     -- ---- the program's residual

@@ -8,14 +8,14 @@ use Prim.Native.Nat.{ℕ, zero, suc, _+_ as _plus_, _<_}
 use native.Mathlib.Nat.{add-zero as plus-zero}
 use native.Mathlib.Omega.{arith}
 use lib.Dec.{eqb, lit<}
+use Rattle.sequence.specs.Facts.{All}
+use Rattle.sequence.specs.Facts.All.{done, _&_}
+use Rattle.sequence.proofs.Facts.{all-append, all-each}
 use Rattle.network.specs.Layout.{segmentsAt, segmentStart}
 use Rattle.solution.specs.Sheet.{pieceRank}
 use Rattle.kkt_index.specs.declared.Block.the-variants.{Va, Pg, Flow, Psh, Cost, LamLb, LamUb, GammaLb, GammaUb, RhoLb, RhoUb, MuLb, MuUb, Segments, Linear, NuBal, NuFlow, Eta}
 use Rattle.kkt_index.specs.Index.{Shape, rank, width}
 use Rattle.kkt_index.specs.Index.Shape.{free, upperOnly, lowerOnly, twoSided, equality}
-use Rattle.kkt_laws.specs.Laws.{All}
-use Rattle.kkt_laws.specs.Laws.All.{done, _&_}
-use Rattle.kkt_laws.proofs.Every.{all-append, all-each}
 use Rattle.exact.specs.Ring.{sum}
 use Rattle.books.specs.Forms.{Place, Form, none, unit}
 use Rattle.books.specs.Forms.Form.{var, _⊖_}

@@ -6,29 +6,17 @@ use mathlib.Core.List.{List, [], _∷_, _++_}
 use mathlib.Mathlib.Algebra.Ring.Defs.{CommRing}
 use Prim.Native.Nat.{ℕ, zero, suc, _+_ as _plus_, _<_}
 use native.Mathlib.Omega.{arith}
-use native.Mathlib.Decide.{ℕ-discrete, decLt}
-use lib.Dec.{eqb, eqb-refl, eqb→eq, not-T}
-use lib.Ieee.Bits.{is-true, is-false}
+use native.Mathlib.Decide.{ℕ-discrete}
+use lib.Dec.{eqb}
+use borrow.Author.Tests.{eq-eqb, ne-eqb}
 use Rattle.sequence.specs.Lists.{before, each, when}
-use Rattle.sequence.proofs.Lists.{before-within}
+use Rattle.sequence.proofs.Lists.{before-apart}
 use Rattle.exact.specs.Ring.{sum, total, only}
 use Rattle.exact.proofs.Sums.{add-assoc, zero-add, add-zero, add-mul, zero-mul, total-same, total-zero, total-add}
 use Rattle.books_exact.proofs.Laws.{neg-zero, neg-add, mul-add, mul-zero, one-mul, ring}
 
 pub eqb-own : (k : ℕ) → eqb k k ≡ true
-eqb-own k = is-true (eqb k k) (eqb-refl k)
-
-pub eqb-other : (k r : ℕ) → (k ≡ r → ⊥) → eqb k r ≡ false
-eqb-other k r d = is-false (eqb k r) (not-T (eqb k r) (λ t. d (eqb→eq k r t)))
-
--- a stretch's place in the whole says which stretch it is
-pub before-apart : (w : ℕ → ℕ) (j t i u : ℕ) → t < w j → u < w i → before w j plus t ≡ before w i plus u → j ≡ i
-before-apart w j t i u p q e = go (decLt j i) (decLt i j)
-  where
-    go : Dec (j < i) → Dec (i < j) → j ≡ i
-    go (yes l) d = let z : ⊥ = omega (arith, before-within w j i l) in absurd z
-    go (no l) (yes m) = let z : ⊥ = omega (arith, before-within w i j m) in absurd z
-    go (no l) (no m) = omega arith
+eqb-own k = eq-eqb k k refl
 
 module _ {R : Type 0} (𝓡 : CommRing R) where
   open CommRing 𝓡 using (add as _+_, mul as _*_, neg as less, zero as 𝟘, one as 𝟙)
@@ -144,17 +132,13 @@ module _ {R : Type 0} (𝓡 : CommRing R) where
 
   pub total-point : (f : ℕ → R) (k n : ℕ) → k < n → total 𝓡 (λ r. only 𝓡 (eqb r k) (f r)) n ≡ f k
   unfolding only
-  total-point f k n l = total-at _ k n l (λ r p d. rw (eqb-other r k d)) ∙ rw (eqb-own k)
-
-  pub total-point′ : (f : ℕ → R) (k n : ℕ) → k < n → total 𝓡 (λ r. only 𝓡 (eqb k r) (f r)) n ≡ f k
-  unfolding only
-  total-point′ f k n l = total-at _ k n l (λ r p d. rw (eqb-other k r (λ e. d (sym e)))) ∙ rw (eqb-own k)
+  total-point f k n l = total-at _ k n l (λ r p d. rw (ne-eqb r k d)) ∙ rw (eqb-own k)
 
   -- stretches of w 0, w 1, .. turns laid end to end: of all places only that of stretch j's turn t counts
   pub total-flat : (w : ℕ → ℕ) (f : ℕ → ℕ → R) (j t n : ℕ) → j < n → t < w j
       → total 𝓡 (λ i. total 𝓡 (λ u. only 𝓡 (eqb (before w i plus u) (before w j plus t)) (f i u)) (w i)) n ≡ f j t
   unfolding only
   total-flat w f j t n l m =
-      total-at _ j n l (λ i p d. total-none _ (w i) (λ u q. rw (eqb-other (before w i plus u) (before w j plus t) (λ e. d (before-apart w i u j t q m e)))))
-      ∙ total-at _ t (w j) m (λ u q d. rw (eqb-other (before w j plus u) (before w j plus t) (λ e. d (omega arith))))
+      total-at _ j n l (λ i p d. total-none _ (w i) (λ u q. rw (ne-eqb (before w i plus u) (before w j plus t) (λ e. d (before-apart w i j u t q m e .0)))))
+      ∙ total-at _ t (w j) m (λ u q d. rw (ne-eqb (before w j plus u) (before w j plus t) (λ e. d (omega arith))))
       ∙ rw (eqb-own (before w j plus t))

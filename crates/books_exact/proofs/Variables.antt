@@ -6,7 +6,9 @@ use mathlib.Mathlib.Algebra.Ring.Defs.{CommRing}
 use Prim.Native.Nat.{ℕ, zero, _+_ as _plus_, _<_}
 use native.Mathlib.Omega.{arith}
 use lib.Dec.{eqb, lit<}
+use borrow.Author.Tests.{ne-eqb}
 use Rattle.float64.specs.Values.{one, whole}
+use Rattle.sequence.proofs.Lists.{before-apart}
 use Rattle.network.specs.declared.Part.the-variants.{GenBus, References, FlowTerms, GenerationTerms}
 use Rattle.network.specs.declared.Field.the-variants.{Sw, Cq, Slopes}
 use Rattle.network.specs.Layout.{wire, segmentsAt, segmentStart}
@@ -17,7 +19,7 @@ use Rattle.kkt_index.specs.declared.Block.the-variants.{Va, Pg, Flow, Psh, Cost
 use Rattle.kkt_index.specs.Index.{Shape, rank}
 use Rattle.kkt_index.specs.Index.Shape.{free, upperOnly, lowerOnly, twoSided, equality}
 use Rattle.exact.specs.Ring.{sum, total, only}
-use Rattle.exact.proofs.Sums.{total-same, total-add}
+use Rattle.exact.proofs.Sums.{total-same, total-add, total-one}
 use Rattle.books.specs.Forms.{Place, Form, unit}
 use Rattle.books.specs.Forms.Form.{num, rd, minus, _⊗_}
 use Rattle.books.specs.Convex.{Constraint, matrixOf}
@@ -25,7 +27,7 @@ use Rattle.books.specs.Manual.{Site, program, constraints, from, to, weight, bb
 use Rattle.books.specs.Matrix.{samePlace}
 use Rattle.books_exact.specs.Exact.{World, Sound, exactOf}
 use Rattle.books_exact.proofs.Laws.{units, ring, neg-add}
-use Rattle.books_exact.proofs.Sums.{eqb-own, eqb-other, before-apart, sum-append, sum-singles, sum-each, sum-when, sum-one, only-mark, only-both, only-neg, only-on, only-off, total-none, total-neg, total-only, total-at, total-point, total-point′}
+use Rattle.books_exact.proofs.Sums.{eqb-own, sum-append, sum-singles, sum-each, sum-when, sum-one, only-mark, only-both, only-neg, only-on, only-off, total-none, total-neg, total-only, total-at, total-point}
 use Rattle.books_exact.proofs.Applied.{applied, coefficient, columnOf}
 use Rattle.books_exact.proofs.Families.{families, of-block, matrix-at-variable}
 use Rattle.books_exact.proofs.Branches.{incidence, bbus-column}
@@ -355,11 +357,11 @@ module _ {A : Type 0} (𝓡 : CommRing A) (W : World A) (h : Sound 𝓡 W) (v : 
       → eqb (pieceRank (s .counts) (s .wiring) i) (pieceRank (s .counts) (s .wiring) j) ≡ false
   unfolding pieceRank
   pieces-apart i j t d l m =
-      eqb-other _ _
-      (λ e. d (before-apart (piece (s .counts) (s .wiring)) i 0 j 0 (piecewise i (omega arith)) (piecewise j m) (ap (λ (k : ℕ). k plus 0) e)))
+      ne-eqb _ _
+      (λ e. d (before-apart (piece (s .counts) (s .wiring)) i j 0 0 (piecewise i (omega arith)) (piecewise j m) (ap (λ (k : ℕ). k plus 0) e) .0))
     where
       piecewise : (k : ℕ) → 0 < segmentsAt (s .counts) (s .wiring) k → 0 < piece (s .counts) (s .wiring) k
-      piecewise k q = rw (eqb-other (segmentsAt (s .counts) (s .wiring) k) 0 (λ e. omega arith)) (lit< tt)
+      piecewise k q = rw (ne-eqb (segmentsAt (s .counts) (s .wiring) k) 0 (λ e. omega arith)) (lit< tt)
 
   pub at-cost : (j : ℕ) → j < s .counts .generators → 0 < segmentsAt (s .counts) (s .wiring) j
       → At (Cost, pieceRank (s .counts) (s .wiring) j) ≡ total 𝓡 (λ t. less (v (Segments, place j t))) (segmentsAt (s .counts) (s .wiring) j)
@@ -397,7 +399,7 @@ module _ {A : Type 0} (𝓡 : CommRing A) (W : World A) (h : Sound 𝓡 W) (v : 
         (ap₂ _+_
         (total-same 𝓡 _ _ _
         (λ i m. ap (λ (x : A). less x * v (NuBal, i)) (injected i j l) ∙ shed-ring (eqb (wire (s .counts) (s .wiring) GenBus j) i) (W .number one) (v (NuBal, i)) (h .one-is))
-        ∙ total-point′ 𝓡 (λ i. less (v (NuBal, i))) (wire (s .counts) (s .wiring) GenBus j) _ (g .gen-buses j l))
+        ∙ total-one 𝓡 (λ i. less (v (NuBal, i))) (wire (s .counts) (s .wiring) GenBus j) _ (g .gen-buses j l))
         (ap₂ _+_ (total-point 𝓡 (λ k. less (v (RhoLb, k))) j _ l)
         (ap₂ _+_ (total-point 𝓡 (λ k. v (RhoUb, k)) j _ l)
         (ap₂ _+_

@@ -2,7 +2,7 @@
 -- And its optimality conditions (5.49). Main definitions: `bookResidual`, `ResidualIs`; `Kept`, `stationarity`, `Optimal`. Assumes nothing.
 use mathlib.Core.Path.{_≡_}
 use mathlib.Mathlib.Algebra.Ring.Defs.{CommRing}
-use Rattle.kkt_laws.specs.Laws.{All}
+use Rattle.sequence.specs.Facts.{All}
 use Rattle.exact.specs.Ring.{sum, only}
 use Rattle.books.specs.Forms.{Place, Form}
 use Rattle.books.specs.Convex.{Gradient, Kind, Constraint, Program, inColumn}

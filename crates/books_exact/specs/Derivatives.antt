@@ -5,9 +5,9 @@ use mathlib.Core.Path.{_≡_}
 use mathlib.Core.Bool.{_&&_}
 use mathlib.Core.List.{List}
 use mathlib.Mathlib.Algebra.Ring.Defs.{CommRing}
+use Rattle.sequence.specs.Facts.{All}
 use Rattle.solution.specs.Sheet.{pieces}
 use Rattle.kkt_index.specs.Index.{size}
-use Rattle.kkt_laws.specs.Laws.{All}
 use Rattle.exact.specs.Ring.{sum, only}
 use Rattle.books.specs.Forms.{Place, Form}
 use Rattle.books.specs.Convex.{Entry, matrixOf}

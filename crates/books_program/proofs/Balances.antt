@@ -33,8 +33,8 @@ use Rattle.books.specs.Forms.{Form as form}
 use Rattle.books.specs.Convex.{Gradient}
 use Rattle.books.specs.Manual.{Site, balance, bbus, bbusTo, product, meets, generatorAt}
 use Rattle.books.specs.Matrix.{samePlace}
-use Rattle.books.proofs.Zeros.{Alike, alike-add, alike-skip-add, alike-neg}
-use Rattle.books.proofs.Zeros.Alike.{same, zeros}
+use Rattle.books.proofs.Zeros.{SameOrZeros, alike-add, alike-skip-add, alike-neg}
+use Rattle.books.proofs.Zeros.SameOrZeros.{same, zeros}
 use Rattle.books_program.specs.Rows.{site}
 use Rattle.books_program.specs.Program.{termValues, summed, together, Holds, hasColumn, columnIndex, variable}
 use Rattle.books.proofs.Doubles.{alike-back, alike-then, alike-is, plainly, neg-none, less-zero, none-zero, nought-fits, add-neg}
@@ -50,23 +50,23 @@ unfolding summed
 sum-append a [] m = refl
 sum-append a (x ∷ l) m = sum-append (add binary64 a x) l m
 
-sum-only : (x : Float) → T (fits binary64 x) → Alike (summed nought (only x ++ [])) x
+sum-only : (x : Float) → T (fits binary64 x) → SameOrZeros (summed nought (only x ++ [])) x
 unfolding summed when
 sum-only x h = go (eq x nought) refl
   where
-    go : (b : Bool) → eq x nought ≡ b → Alike (summed nought (when (not b) (x ∷ []) ++ [])) x
+    go : (b : Bool) → eq x nought ≡ b → SameOrZeros (summed nought (when (not b) (x ∷ []) ++ [])) x
     go true e = zeros none-zero e
     go false e = alike-is (nought-add x h e)
 
 -- one more, of the other sign
-sum-step : (a y z : Float) → T (fits binary64 y) → T (fits binary64 z) → Alike a (neg y) → Alike (summed a (only (neg z) ++ [])) (neg (add binary64 y z))
+sum-step : (a y z : Float) → T (fits binary64 y) → T (fits binary64 z) → SameOrZeros a (neg y) → SameOrZeros (summed a (only (neg z) ++ [])) (neg (add binary64 y z))
 unfolding summed when
 sum-step a y z h k q = go (eq (neg z) nought) refl
   where
     zero-z : eq (neg z) nought ≡ true → eq z nought ≡ true
     zero-z e = rw neg-neg at (neg-none (neg z) e)
 
-    go : (b : Bool) → eq (neg z) nought ≡ b → Alike (summed a (when (not b) (neg z ∷ []) ++ [])) (neg (add binary64 y z))
+    go : (b : Bool) → eq (neg z) nought ≡ b → SameOrZeros (summed a (when (not b) (neg z ∷ []) ++ [])) (neg (add binary64 y z))
     go true e = alike-then q (alike-neg y (add binary64 y z) (alike-skip-add y y z h (zero-z e) same))
     go false e = alike-then (alike-add a (neg y) (neg z) (neg-fits binary64 z k) q) (add-neg y z)
 
@@ -151,15 +151,15 @@ module _ (c : Counts) (w : List ℕ) (r : List Float) (ti : List ℕ) (tc : List
     product-fits true false e y k = sub-fits binary64 _ _
 
     -- a branch's entry where its ends meet the cell
-    up-step : (b d : Bool) (e v : ℕ) (a : Float) (y : Form) → eqb v j ≡ d → T (fits binary64 (worth c w r ti tc y)) → Alike a (neg (worth c w r ti tc y))
-        → Alike (summed a (at (when b ((Va, v, minus (weightOf e)) ∷ [])))) (neg (worth c w r ti tc (product own (cond b d false) true e y)))
+    up-step : (b d : Bool) (e v : ℕ) (a : Float) (y : Form) → eqb v j ≡ d → T (fits binary64 (worth c w r ti tc y)) → SameOrZeros a (neg (worth c w r ti tc y))
+        → SameOrZeros (summed a (at (when b ((Va, v, minus (weightOf e)) ∷ [])))) (neg (worth c w r ti tc (product own (cond b d false) true e y)))
     unfolding atColumn when summed
     up-step true true e v a y p h q = rw p (sum-step a (worth c w r ti tc y) (weight e) h (mul-fits binary64 _ _) q)
     up-step true false e v a y p h q = rw p q
     up-step false d e v a y p h q = q
 
-    down-step : (b d : Bool) (e v : ℕ) (a : Float) (y : Form) → eqb v j ≡ d → T (fits binary64 (worth c w r ti tc y)) → Alike a (neg (worth c w r ti tc y))
-        → Alike (summed a (at (when b ((Va, v, weightOf e) ∷ [])))) (neg (worth c w r ti tc (product own (cond b d false) false e y)))
+    down-step : (b d : Bool) (e v : ℕ) (a : Float) (y : Form) → eqb v j ≡ d → T (fits binary64 (worth c w r ti tc y)) → SameOrZeros a (neg (worth c w r ti tc y))
+        → SameOrZeros (summed a (at (when b ((Va, v, weightOf e) ∷ [])))) (neg (worth c w r ti tc (product own (cond b d false) false e y)))
     unfolding atColumn when summed sub
     down-step true true e v a y p h q =
         rw p (rw neg-neg at (sum-step a (worth c w r ti tc y) (neg (weight e)) h (neg-fits binary64 (weight e) (mul-fits binary64 _ _)) q))
@@ -207,8 +207,8 @@ module _ (c : Counts) (w : List ℕ) (r : List Float) (ti : List ℕ) (tc : List
           sum-append (summed (summed a (at k)) (at l)) (at m) (at n),
         )
 
-    branch-step : (e : ℕ) (a : Float) (y : Form) → T (fits binary64 (worth c w r ti tc y)) → Alike a (neg (worth c w r ti tc y))
-        → Alike (summed a (at (angleTerms e))) (neg (worth c w r ti tc (fourth e (third e (second e (first e y))))))
+    branch-step : (e : ℕ) (a : Float) (y : Form) → T (fits binary64 (worth c w r ti tc y)) → SameOrZeros a (neg (worth c w r ti tc y))
+        → SameOrZeros (summed a (at (angleTerms e))) (neg (worth c w r ti tc (fourth e (third e (second e (first e y))))))
     branch-step e a y h q =
         alike-then (alike-is (at-four a (fromFrom e) (toTo e) (fromTo e) (toFrom e)))
         (down-step (eqb (to c w r e) i) (eqb (from c w r e) j) e (from c w r e) _ (third e (second e (first e y))) refl (third-fits e y h)
@@ -216,7 +216,7 @@ module _ (c : Counts) (w : List ℕ) (r : List Float) (ti : List ℕ) (tc : List
         (up-step (eqb (to c w r e) i) (eqb (to c w r e) j) e (to c w r e) _ (first e y) refl (first-fits e y h)
         (up-step (eqb (from c w r e) i) (eqb (from c w r e) j) e (from c w r e) a y refl h q))))
 
-    sums-alike : (n : ℕ) → Alike (summed nought (at (each n angleTerms))) (neg (worth c w r ti tc (bbusTo own i j n)))
+    sums-alike : (n : ℕ) → SameOrZeros (summed nought (at (each n angleTerms))) (neg (worth c w r ti tc (bbusTo own i j n)))
     unfolding each summed atColumn bbusTo
     sums-alike zero = zeros none-zero less-zero
     sums-alike (suc e) =
@@ -336,7 +336,7 @@ module _ (c : Counts) (w : List ℕ) (r : List Float) (ti : List ℕ) (tc : List
       ∙ terms-point (worth c w r ti tc) (blocks.Va, j) (c .buses) j _ l (λ t m d. rw (ne-eqb t j d))
       ∙ rw (eq-eqb j j refl))
 
-  at-angle : (j : ℕ) → j < c .buses → Alike (summed nought (entries Va j)) (summed nought (due (blocks.Va, j) gradient))
+  at-angle : (j : ℕ) → j < c .buses → SameOrZeros (summed nought (entries Va j)) (summed nought (due (blocks.Va, j) gradient))
   at-angle j l =
       alike-then (alike-is (ap (summed nought) (three-parts Va j ∙ rw (no-shed Va j refl, no-power Va j refl))))
       (alike-then (sums-alike j (c .branches))

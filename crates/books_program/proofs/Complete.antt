@@ -10,6 +10,8 @@ use native.Mathlib.Omega.{arith}
 use lib.ListN.{getD}
 use lib.Ieee.{Float}
 use Rattle.sequence.specs.Lists.{each}
+use Rattle.sequence.specs.Facts.{Any}
+use Rattle.sequence.specs.Facts.Any.{here, there}
 use Rattle.network.specs.declared.Counts.{Counts}
 use Rattle.network.specs.declared.Part.the-variants.{GeneratorFlags, ThermalFlags, AngleFlags}
 use Rattle.network.specs.Layout.{segmentsAt, segmentStart}
@@ -27,8 +29,7 @@ use Rattle.books.specs.Convex.{Constraint}
 use Rattle.books.specs.Manual as manual
 use Rattle.books.specs.Manual.{Site, segment}
 use Rattle.books_program.specs.Rows.{Rowed, asRow, site, joined, active, always, linearRowed, balances, loops, rowed}
-use Rattle.books_program.specs.Program.{Any, rowAt}
-use Rattle.books_program.specs.Program.Any.{here, there}
+use Rattle.books_program.specs.Program.{rowAt}
 
 module _ {A : Type 0} {P : A → Type 0} where
   -- in the first of two lists, in the second, and in one turn of a loop

@@ -6,12 +6,13 @@ use mathlib.Core.List.{List, [], _∷_, _++_, append-nil, append-assoc}
 use Prim.Native.Nat.{ℕ, zero, suc, _+_, _≤_, _<_}
 use native.Mathlib.Omega.{arith}
 use lib.Dec.{T, eqb}
-use lib.ListN.{length, getD}
+use lib.ListN.{getD}
 use lib.Ieee.{Float, nan, binary64, add, eq}
 use borrow.Author.Tests.{eq-eqb, ne-eqb}
 use Rattle.float64.specs.Values.{nought, one, whole}
 use Rattle.sequence.specs.Lists.{each, when}
 use Rattle.sequence.specs.Sheets.{Triplet, triplet, emit}
+use Rattle.sequence.proofs.Lists.{map-at}
 use Rattle.network.specs.declared.Counts.{Counts}
 use Rattle.network.specs.declared.Part.the-variants.{Segments}
 use Rattle.network.specs.declared.Field.the-variants.{Cq, Cl, CShed}
@@ -23,35 +24,30 @@ use Rattle.opf_layout.specs.declared.OpfColumn.{OpfColumn}
 use Rattle.opf_layout.specs.declared.OpfColumn.the-variants.{Va, Pg, Flow, Shed, Cost}
 use Rattle.opf_layout.specs.Layout.{flagged, sheds, activeOf, columns, columnRank, columnSize, columnSizes, columnStart}
 use Rattle.opf_layout.proofs.Ranks.{rank-below, rank-apart, piece-rank}
+use Rattle.opf_layout.proofs.Blocks.{column-of-rank, column-rank-below}
 use Rattle.opf_assembly.specs.Assembly.{columnElements, columnWords, qSheet, quadTriplets, tripletOf, blank}
+use Rattle.opf_assembly.proofs.Lengths.{column-long}
 use Rattle.books.specs.Forms.{Place, Form}
 use Rattle.books.specs.Forms as forms
 use Rattle.books.specs.Forms.Form.{num, rd, _⊗_}
 use Rattle.books.specs.Convex.{Entry, Gradient, hessianEntries}
 use Rattle.books.specs.Manual.{Site, hessian, costs, program}
 use Rattle.books.specs.Matrix.{samePlace, cellValues}
-use Rattle.books.proofs.Zeros.{Alike, alike-skip-add}
-use Rattle.books.proofs.Zeros.Alike.{same}
+use Rattle.books.proofs.Zeros.{SameOrZeros, alike-skip-add}
+use Rattle.books.proofs.Zeros.SameOrZeros.{same}
 use Rattle.books_program.specs.Rows.{site}
 use Rattle.books_program.specs.Program.{termValues, summed, constant, hasColumn, columnIndex, columnAt, variable, HessianIs, CostIs}
 use Rattle.books.proofs.Doubles.{alike-back, alike-then, alike-is, plainly, nought-fits}
-use Rattle.books_program.proofs.Runs.{map-at, block-at, one-at, one-long, rank-at, rank-long}
-use Rattle.books_program.proofs.Entries.{only, column-ranked, column-same}
+use Rattle.books_program.proofs.Runs.{block-at, one-at, rank-at}
+use Rattle.books_program.proofs.Entries.{only, column-same}
 use Rattle.books_program.proofs.Terms.{terms-append, terms-none, terms-point, worth, place-same}
 
-column-below : (k : OpfColumn) → columnRank k < 5
-column-below Va = omega arith
-column-below Pg = omega arith
-column-below Flow = omega arith
-column-below Shed = omega arith
-column-below Cost = omega arith
-
 -- +0 plus a value, zeros left out or not
-add-only : (x : Float) → Alike (add binary64 nought x) (summed nought (only x ++ []))
+add-only : (x : Float) → SameOrZeros (add binary64 nought x) (summed nought (only x ++ []))
 unfolding summed when
 add-only x = go (eq x nought) refl
   where
-    go : (b : Bool) → eq x nought ≡ b → Alike (add binary64 nought x) (summed nought (when (not b) (x ∷ []) ++ []))
+    go : (b : Bool) → eq x nought ≡ b → SameOrZeros (add binary64 nought x) (summed nought (when (not b) (x ∷ []) ++ []))
     go true e = alike-back (alike-skip-add nought nought x nought-fits e same)
     go false e = same
 
@@ -70,14 +66,6 @@ module _ (c : Counts) (w : List ℕ) (r : List Float) (ti : List ℕ) (tc : List
 
   -- ---- the words of q
 
-  column-long : (k : OpfColumn) → length (columnWords c w r k) ≡ columnSize c (activeOf c w r) k
-  unfolding activeOf
-  column-long Va = one-long _ (c .buses)
-  column-long Pg = one-long _ (c .generators)
-  column-long Flow = one-long _ (c .branches)
-  column-long Shed = rank-long (sheds c w r) _ (c .buses)
-  column-long Cost = rank-long (flagged c w Segments) _ (c .generators) ∙ sym (piece-rank c w (c .generators))
-
   abbrev cost : OpfColumn → ℕ → Float
   cost k j = getD (qSheet c w r) (columnAt c w r ti tc k j) nan
 
@@ -85,10 +73,10 @@ module _ (c : Counts) (w : List ℕ) (r : List Float) (ti : List ℕ) (tc : List
   unfolding qSheet columnStart
   column-word k j l h =
       block-at (λ n. columnWords c w r (getD columns n Va)) (columnSizes c (activeOf c w r)) 5
-      (λ n m. column-long (getD columns n Va) ∙ sym (map-at (columnSize c (activeOf c w r)) Va columns n m))
-      (columnRank k) (columnIndex c w r ti tc k j) nan (column-below k)
-      (rw (map-at (columnSize c (activeOf c w r)) Va columns (columnRank k) (column-below k), column-ranked k) (index-below k j l h))
-      ∙ ap (λ (b : OpfColumn). getD (columnWords c w r b) (columnIndex c w r ti tc k j) nan) (column-ranked k)
+      (λ n m. column-long c w r (getD columns n Va) ∙ sym (map-at (columnSize c (activeOf c w r)) columns n Va m))
+      (columnRank k) (columnIndex c w r ti tc k j) nan (column-rank-below k)
+      (rw (map-at (columnSize c (activeOf c w r)) columns (columnRank k) Va (column-rank-below k), column-of-rank k) (index-below k j l h))
+      ∙ ap (λ (b : OpfColumn). getD (columnWords c w r b) (columnIndex c w r ti tc k j) nan) (column-of-rank k)
 
   cost-word : (j : ℕ) → j < c .generators → flagged c w Segments j ≡ true → cost Cost j ≡ add binary64 nought one
   cost-word j l h =

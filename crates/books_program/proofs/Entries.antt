@@ -12,22 +12,21 @@ use borrow.Author.Tests.{eq-eqb, ne-eqb, eqb-true}
 use Rattle.float64.specs.Values.{nought}
 use Rattle.sequence.specs.Lists.{each, when}
 use Rattle.sequence.specs.Sheets.{Triplet, triplet, emit}
+use Rattle.sequence.specs.Facts.{All}
+use Rattle.sequence.specs.Facts.All.{done, _&_}
 use Rattle.network.specs.declared.Counts.{Counts}
 use Rattle.network.specs.declared.Field.{Field}
 use Rattle.solution.specs.declared.Entry.{Entry}
 use Rattle.snapping.specs.Expr.{Expr, eval}
-use Rattle.kkt_laws.specs.Laws.{All}
-use Rattle.kkt_laws.specs.Laws.All.{done, _&_}
 use Rattle.change_table.specs.Table.{Cell, sameCell, valuesAt}
 use Rattle.opf_layout.specs.declared.Active.{Active}
 use Rattle.opf_layout.specs.declared.OpfColumn.{OpfColumn}
-use Rattle.opf_layout.specs.declared.OpfColumn.the-variants.{Va, Pg, Flow, Shed, Cost}
+use Rattle.opf_layout.specs.declared.OpfColumn.the-variants.{Va}
 use Rattle.opf_layout.specs.declared.OpfRow.{OpfRow}
 use Rattle.opf_layout.specs.declared.OpfRow.the-variants.{Balance}
 use Rattle.opf_layout.specs.Layout.{columns, columnRank, columnSize, columnStart, rows, rowRank, rowSize, rowStart}
-use Rattle.opf_layout.proofs.Blocks.{columns-apart, rows-apart}
+use Rattle.opf_layout.proofs.Blocks.{columns-apart, rows-apart, row-of-rank, column-of-rank}
 use Rattle.opf_assembly.specs.Assembly.{Coefficient, tripletsBy, triplets}
-use Rattle.books_program.proofs.Sides.{row-ranked}
 
 -- a value, unless it is a zero
 abbrev pub only : Float → List Float
@@ -78,17 +77,10 @@ module _ (v : Expr → Float) (k : OpfColumn) (j : ℕ) where
 -- ---- flat rows and columns
 
 pub one-row : (a b : OpfRow) → rowRank a ≡ rowRank b → a ≡ b
-one-row a b e = sym (row-ranked a) ∙ ap (λ (k : ℕ). getD rows k Balance) e ∙ row-ranked b
-
-pub column-ranked : (k : OpfColumn) → getD columns (columnRank k) Va ≡ k
-column-ranked Va = refl
-column-ranked Pg = refl
-column-ranked Flow = refl
-column-ranked Shed = refl
-column-ranked Cost = refl
+one-row a b e = sym (row-of-rank a) ∙ ap (λ (k : ℕ). getD rows k Balance) e ∙ row-of-rank b
 
 one-column : (k l : OpfColumn) → columnRank k ≡ columnRank l → k ≡ l
-one-column k l e = sym (column-ranked k) ∙ ap (λ (n : ℕ). getD columns n Va) e ∙ column-ranked l
+one-column k l e = sym (column-of-rank k) ∙ ap (λ (n : ℕ). getD columns n Va) e ∙ column-of-rank l
 
 both-false : (s t : Bool) → (s ≡ true → t ≡ true → ⊥) → false ≡ (s && t)
 both-false true true h = absurd (h refl refl)

@@ -7,6 +7,9 @@ use Prim.Native.Nat.{ℕ}
 use lib.Dec.{T, eqb, eqb→eq}
 use lib.Ieee.{Float}
 use Rattle.sequence.specs.Lists.{each, when}
+use Rattle.sequence.specs.Facts.{All}
+use Rattle.sequence.specs.Facts.All.{done, _&_}
+use Rattle.sequence.proofs.Facts.{all-append, all-each, all-when}
 use Rattle.network.specs.declared.Counts.{Counts}
 use Rattle.network.specs.declared.Part.the-variants.{ThermalFlags, AngleFlags, GeneratorFlags, FlowTerms, GenerationTerms}
 use Rattle.network.specs.Layout.{wire, segmentsAt}
@@ -14,9 +17,6 @@ use Rattle.model.specs.declared.RowLimits.{RowLimits}
 use Rattle.model.specs.declared.RowLimits.the-variants.{None, Upper, Lower, Both, Equal}
 use Rattle.model.specs.Rows.{rowLimits}
 use Rattle.snapping.specs.Expr.{Expr}
-use Rattle.kkt_laws.specs.Laws.{All}
-use Rattle.kkt_laws.specs.Laws.All.{done, _&_}
-use Rattle.kkt_laws.proofs.Every.{all-append, all-each, all-when}
 use Rattle.opf_layout.specs.declared.OpfRow.{OpfRow}
 use Rattle.opf_layout.specs.declared.OpfRow.the-variants.{Balance, FlowRow, Reference, LineUb, LineLb, GenUb, GenLb, ShedUb, ShedLb, PhaseUb, PhaseLb, Segment, LinearEqual, LinearLimit}
 use Rattle.opf_layout.specs.Layout.{flagged, sheds, rowRank}

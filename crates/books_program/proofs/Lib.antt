@@ -12,4 +12,3 @@ pub mod Costs
 pub mod Constraints
 pub mod Complete
 pub mod Whole
-pub mod Bench

@@ -10,7 +10,7 @@ use lib.ListN.{getD}
 use lib.Ieee.{Float, nan}
 use borrow.Author.Tests.{eq-eqb, ne-eqb}
 use Rattle.sequence.specs.Lists.{each, when}
-use Rattle.sequence.proofs.Lists.{each-same}
+use Rattle.sequence.proofs.Lists.{each-same, before-apart}
 use Rattle.network.specs.declared.Counts.{Counts}
 use Rattle.network.specs.declared.Part.the-variants.{References, GeneratorFlags, ThermalFlags, AngleFlags, FlowTerms, GenerationTerms}
 use Rattle.network.specs.declared.Field.the-variants.{Sw, Slopes}
@@ -27,7 +27,7 @@ use Rattle.opf_layout.specs.declared.OpfColumn.the-variants.{Va, Pg, Flow, Shed
 use Rattle.opf_layout.specs.declared.OpfRow.{OpfRow}
 use Rattle.opf_layout.specs.declared.OpfRow.the-variants.{FlowRow, Reference, LineUb, LineLb, GenUb, GenLb, ShedUb, ShedLb, PhaseUb, PhaseLb, Segment, LinearEqual, LinearLimit}
 use Rattle.opf_layout.specs.Layout.{activeRank, flagged, sheds, equalities, inequalities, equalityRank, inequalityRank, rowRank}
-use Rattle.opf_layout.proofs.Ranks.{rank-apart, width-apart, equality-apart, inequality-apart}
+use Rattle.opf_layout.proofs.Ranks.{rank-apart, equality-apart, inequality-apart}
 use Rattle.opf_assembly.specs.Assembly.{Coefficient, from, to, line, phase, capability, shed, twoSides, branchEntries, phaseEntries, referenceEntry, capabilityEntries, shedBounds, segmentEntries, writtenRow, linearEntries, aEntries}
 use Rattle.books_program.proofs.Entries.{Term, inRow, row-append, row-each, row-when}
 use Rattle.books_program.proofs.Terms.{each-none, each-point}
@@ -244,7 +244,7 @@ module _ (c : Counts) (w : List ℕ) (r : List Float) (ti : List ℕ) (tc : List
       in-group c w r ti tc Segment _ _ (c .generators) (segmentEntries c w r) refl
       ∙ each-same (c .generators) _ _ (λ k n. segment-turn (segmentStart c w j + t) k)
       ∙ each-point (c .generators) j _ l
-      (λ k n d. each-none (segmentsAt c w k) _ (λ s o. other (segmentStart c w k + s) (segmentStart c w j + t) _ (λ q. d (width-apart (segmentsAt c w) k j s t o m q .0))))
+      (λ k n d. each-none (segmentsAt c w k) _ (λ s o. other (segmentStart c w k + s) (segmentStart c w j + t) _ (λ q. d (before-apart (segmentsAt c w) k j s t o m q .0))))
       ∙ each-point (segmentsAt c w j) t _ m
       (λ s o d. other (segmentStart c w j + s) (segmentStart c w j + t) _ (λ q. d (omega (arith, q))))
       ∙ itself (segmentStart c w j + t) (slopes j t)

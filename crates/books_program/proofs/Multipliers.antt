@@ -1,9 +1,8 @@
 -- Each multiplier that is read back is z's word at its constraint's row, with the convention's sign.
 -- Main results: `read-word`, `multipliers-are-the-books`. Assumes nothing.
-use mathlib.Core.Path.{_≡_, refl, sym, ap, _∙_}
+use mathlib.Core.Path.{_≡_, sym, ap, _∙_}
 use mathlib.Core.List.{List}
 use Prim.Native.Nat.{ℕ, _<_}
-use native.Mathlib.Omega.{arith}
 use lib.ListN.{getD}
 use lib.Ieee.{Float, nan, binary64, add}
 use lib.Ieee.Fits.{add-fits}
@@ -16,57 +15,18 @@ use Rattle.model.specs.declared.RowLimits.{RowLimits}
 use Rattle.model.specs.declared.RowLimits.the-variants.{None, Upper, Lower, Both, Equal}
 use Rattle.model.specs.Rows.{rowLimits}
 use Rattle.solution.specs.declared.Entry.{Entry}
-use Rattle.solution.specs.declared.Entry.the-variants.{Va, Pg, Flow, Psh, NuBal, LamUb, LamLb, RhoUb, RhoLb, MuUb, MuLb, GammaUb, GammaLb, Epigraph, SegmentDual, LinearDual, LinearValue, Objective}
+use Rattle.solution.specs.declared.Entry.the-variants.{Va, NuBal, LamUb, LamLb, RhoUb, RhoLb, MuUb, MuLb, GammaUb, GammaLb, SegmentDual, LinearDual}
 use Rattle.solution.specs.Sheet.{entries, rank, size, sizes, pieces, entryStart, solved}
-use Rattle.sens_snap.proofs.Words.{entry-size}
-use Rattle.sens_snap.proofs.Segments.{segment-inside}
+use Rattle.solution.proofs.Entries.{entry-of-rank, rank-below}
 use Rattle.kkt_index.specs.Index.{shapeOf}
+use Rattle.kkt_index.proofs.Segments.{segment-inside}
+use Rattle.snapping.proofs.Words.{entry-size}
 use Rattle.opf_readback.specs.Readback.{readAt, readSheet, linearDual}
 use Rattle.books.specs.Matrix.{Doubles}
-use Rattle.books.proofs.Zeros.{Alike, alike-sub}
+use Rattle.books.proofs.Zeros.{SameOrZeros, alike-sub}
 use Rattle.books_program.specs.Multipliers.{read, signedRow, MultipliersAre}
 use Rattle.books.proofs.Doubles.{alike-back, alike-then, plainly, nought-fits, plus-none, less-none, none-plus, none-less}
 use Rattle.books_program.proofs.Runs.{block-at}
-
-rank-below : (e : Entry) → rank e < 18
-rank-below Va = omega arith
-rank-below Pg = omega arith
-rank-below Flow = omega arith
-rank-below Psh = omega arith
-rank-below NuBal = omega arith
-rank-below LamUb = omega arith
-rank-below LamLb = omega arith
-rank-below RhoUb = omega arith
-rank-below RhoLb = omega arith
-rank-below MuUb = omega arith
-rank-below MuLb = omega arith
-rank-below GammaUb = omega arith
-rank-below GammaLb = omega arith
-rank-below Epigraph = omega arith
-rank-below SegmentDual = omega arith
-rank-below LinearDual = omega arith
-rank-below LinearValue = omega arith
-rank-below Objective = omega arith
-
-ranked : (e : Entry) → getD entries (rank e) Va ≡ e
-ranked Va = refl
-ranked Pg = refl
-ranked Flow = refl
-ranked Psh = refl
-ranked NuBal = refl
-ranked LamUb = refl
-ranked LamLb = refl
-ranked RhoUb = refl
-ranked RhoLb = refl
-ranked MuUb = refl
-ranked MuLb = refl
-ranked GammaUb = refl
-ranked GammaLb = refl
-ranked Epigraph = refl
-ranked SegmentDual = refl
-ranked LinearDual = refl
-ranked LinearValue = refl
-ranked Objective = refl
 
 module _ (c : Counts) (w : List ℕ) (r : List Float) (ti : List ℕ) (tc : List Float) (x z : List Float) (raw : Float) where
   abbrev words : Entry → List Float
@@ -78,12 +38,12 @@ module _ (c : Counts) (w : List ℕ) (r : List Float) (ti : List ℕ) (tc : List
   read-word e i l =
       block-at (λ k. words (getD entries k Va)) (sizes c (pieces c w)) 18
       (λ k h. made-length (readAt c w r ti tc x z raw (getD entries k Va)) (size c (pieces c w) (getD entries k Va)) ∙ sym (entry-size c (pieces c w) k h))
-      (rank e) i nan (rank-below e) (rw (entry-size c (pieces c w) (rank e) (rank-below e), ranked e) l)
-      ∙ ap (λ (g : Entry). getD (words g) i nan) (ranked e)
+      (rank e) i nan (rank-below e) (rw (entry-size c (pieces c w) (rank e) (rank-below e), entry-of-rank e) l)
+      ∙ ap (λ (g : Entry). getD (words g) i nan) (entry-of-rank e)
       ∙ made-at (readAt c w r ti tc x z raw e) (size c (pieces c w) e) i nan l
 
   -- equality plus upper minus lower, of which a row has one or two
-  signed : Doubles z → (k : RowLimits) (q : ℕ) → Alike (linearDual c w r ti tc x z raw k q) (signedRow c w r ti tc x z raw (shapeOf k) q)
+  signed : Doubles z → (k : RowLimits) (q : ℕ) → SameOrZeros (linearDual c w r ti tc x z raw k q) (signedRow c w r ti tc x z raw (shapeOf k) q)
   signed h None q = alike-back (alike-then (none-plus nought nought-fits) (less-none (add binary64 nought nought) (add-fits binary64 _ _)))
   signed h (Upper u) q = alike-back (alike-then (none-plus _ (h _)) (less-none _ (add-fits binary64 _ _)))
   signed h (Lower l) q =

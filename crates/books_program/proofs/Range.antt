@@ -7,6 +7,9 @@ use Prim.Native.Nat.{ℕ, _<_}
 use native.Mathlib.Omega.{arith}
 use lib.Ieee.{Float}
 use Rattle.sequence.specs.Lists.{when}
+use Rattle.sequence.specs.Facts.{All}
+use Rattle.sequence.specs.Facts.All.{done, _&_}
+use Rattle.sequence.proofs.Facts.{all-append, all-each}
 use Rattle.network.specs.declared.Counts.{Counts}
 use Rattle.network.specs.declared.Part.the-variants.{GeneratorFlags, ThermalFlags, AngleFlags, FlowTerms, GenerationTerms}
 use Rattle.network.specs.Layout.{wire, segmentsAt}
@@ -14,11 +17,8 @@ use Rattle.network.specs.Numbers.{Wired, Termed}
 use Rattle.model.specs.declared.RowLimits.{RowLimits}
 use Rattle.model.specs.declared.RowLimits.the-variants.{None, Upper, Lower, Both, Equal}
 use Rattle.model.specs.Rows.{rowLimits}
-use Rattle.sens_snap.proofs.Segments.{segment-inside}
+use Rattle.kkt_index.proofs.Segments.{segment-inside}
 use Rattle.snapping.specs.Expr.{Expr}
-use Rattle.kkt_laws.specs.Laws.{All}
-use Rattle.kkt_laws.specs.Laws.All.{done, _&_}
-use Rattle.kkt_laws.proofs.Every.{all-append, all-each}
 use Rattle.opf_layout.specs.declared.OpfRow.{OpfRow}
 use Rattle.opf_layout.specs.declared.OpfRow.the-variants.{LinearEqual, LinearLimit}
 use Rattle.opf_layout.specs.Layout.{flagged, sheds, activeOf, rowSize}

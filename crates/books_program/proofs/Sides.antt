@@ -5,68 +5,34 @@ use mathlib.Core.Bool.{Bool, true, false, cond}
 use mathlib.Core.List.{List}
 use Prim.Native.Nat.{ℕ, zero, suc, _+_, _<_}
 use native.Mathlib.Omega.{arith}
-use lib.ListN.{length, getD}
+use lib.ListN.{getD}
 use lib.Dec.{eqb}
 use lib.Ieee.{Float, nan, eq, neg}
-use Rattle.float64.specs.Values.{nought, addAt, subAt}
-use Rattle.sequence.specs.Lists.{turns}
+use Rattle.sequence.proofs.Lists.{each-at, map-at}
 use Rattle.network.specs.declared.Counts.{Counts}
 use Rattle.network.specs.declared.Field.the-variants.{BaseMva, UpperMw, LowerMw}
-use Rattle.network.specs.declared.Part.the-variants.{GeneratorFlags, ThermalFlags, AngleFlags, BrFrom, BrTo, Masks}
+use Rattle.network.specs.declared.Part.the-variants.{GeneratorFlags, ThermalFlags, AngleFlags, Masks}
 use Rattle.network.specs.Layout.{allowShed, wire, place, reading, segmentStart}
 use Rattle.model.specs.declared.RowLimits.{RowLimits}
 use Rattle.model.specs.declared.RowLimits.the-variants.{None, Upper, Lower, Both, Equal}
 use Rattle.model.specs.Rows.{bothOf, limitsOf, rowLimits}
-use Rattle.model.specs.Quantities.{flowOffset, phaseTurn, phase, networkAt, fixedAt}
+use Rattle.model.specs.Quantities.{flowOffset, fixedAt}
 use Rattle.snapping.specs.Expr.{unit, lessUnit}
-use Rattle.sens_snap.proofs.Words.{each-long}
 use Rattle.opf_layout.specs.declared.OpfRow.{OpfRow}
 use Rattle.opf_layout.specs.declared.OpfRow.the-variants.{Balance, FlowRow, Reference, LineUb, LineLb, GenUb, GenLb, ShedUb, ShedLb, PhaseUb, PhaseLb, Segment, LinearEqual, LinearLimit}
 use Rattle.opf_layout.specs.Layout.{flagged, sheds, activeRank, equalities, inequalities, equalityRank, inequalityRank, activeOf, rows, rowRank, rowSize, rowSizes, rowStart}
 use Rattle.opf_layout.proofs.Ranks.{rank-below, equality-below, inequality-below}
+use Rattle.opf_layout.proofs.Blocks.{row-of-rank, row-rank-below}
 use Rattle.opf_assembly.specs.Assembly.{perUnit, equalSide, limitSides, rightSides, rowWords, bSheet}
+use Rattle.opf_assembly.proofs.Lengths.{equal-long, limit-long, row-long}
 use Rattle.books.specs.Forms.{Form}
-use Rattle.books.specs.Forms.Form.{_⊕_, _⊖_}
-use Rattle.books.specs.Manual.{Site, balance, flowLaw, reference, flowFloor, flowCeiling, generatorFloor, generatorCeiling, shedFloor, shedCeiling, angleFloor, angleCeiling, segment, rowCeiling, rowFloor, rowLevel, busShiftTo, shiftFlow, upper, lower}
+use Rattle.books.specs.Manual.{Site, balance, flowLaw, reference, flowFloor, flowCeiling, generatorFloor, generatorCeiling, shedFloor, shedCeiling, angleFloor, angleCeiling, segment, rowCeiling, rowFloor, rowLevel, upper, lower}
 use Rattle.books.specs.Matrix.{Doubles}
 use Rattle.books_program.specs.Rows.{site}
 use Rattle.books_program.specs.Program.{constant}
+use Rattle.books.proofs.Model.{fixed-is}
 use Rattle.books.proofs.Doubles.{one-by, less-by, div-neg}
-use Rattle.books_program.proofs.Runs.{map-at, run-at, block-at, one-at, one-long, rank-at, rank-long}
-
--- ---- rows by their rank
-
-row-below : (a : OpfRow) → rowRank a < 14
-row-below Balance = omega arith
-row-below FlowRow = omega arith
-row-below Reference = omega arith
-row-below LineUb = omega arith
-row-below LineLb = omega arith
-row-below GenUb = omega arith
-row-below GenLb = omega arith
-row-below ShedUb = omega arith
-row-below ShedLb = omega arith
-row-below PhaseUb = omega arith
-row-below PhaseLb = omega arith
-row-below Segment = omega arith
-row-below LinearEqual = omega arith
-row-below LinearLimit = omega arith
-
-pub row-ranked : (a : OpfRow) → getD rows (rowRank a) Balance ≡ a
-row-ranked Balance = refl
-row-ranked FlowRow = refl
-row-ranked Reference = refl
-row-ranked LineUb = refl
-row-ranked LineLb = refl
-row-ranked GenUb = refl
-row-ranked GenLb = refl
-row-ranked ShedUb = refl
-row-ranked ShedLb = refl
-row-ranked PhaseUb = refl
-row-ranked PhaseLb = refl
-row-ranked Segment = refl
-row-ranked LinearEqual = refl
-row-ranked LinearLimit = refl
+use Rattle.books_program.proofs.Runs.{block-at, one-at, rank-at}
 
 -- ---- the limits of a linear row are its readings
 
@@ -98,64 +64,18 @@ module _ (c : Counts) (w : List ℕ) (r : List Float) (ti : List ℕ) (tc : List
   abbrev side : OpfRow → ℕ → Float
   side a i = getD (bSheet c w r) (rowStart c (activeOf c w r) a + i) nan
 
-  equal-long : (k : RowLimits) → length (equalSide c r k) ≡ equalities k
-  equal-long None = refl
-  equal-long (Upper u) = refl
-  equal-long (Lower l) = refl
-  equal-long (Both u l) = refl
-  equal-long (Equal l) = refl
-
-  limit-long : (k : RowLimits) → length (limitSides c r k) ≡ inequalities k
-  limit-long None = refl
-  limit-long (Upper u) = refl
-  limit-long (Lower l) = refl
-  limit-long (Both u l) = refl
-  limit-long (Equal l) = refl
-
-  row-long : (a : OpfRow) → length (rowWords c w r a) ≡ rowSize c (activeOf c w r) a
-  unfolding activeOf equalityRank inequalityRank
-  row-long Balance = one-long _ (c .buses)
-  row-long FlowRow = one-long _ (c .branches)
-  row-long Reference = one-long _ (c .references)
-  row-long LineUb = rank-long (flagged c w ThermalFlags) _ (c .branches)
-  row-long LineLb = rank-long (flagged c w ThermalFlags) _ (c .branches)
-  row-long GenUb = rank-long (flagged c w GeneratorFlags) _ (c .generators)
-  row-long GenLb = rank-long (flagged c w GeneratorFlags) _ (c .generators)
-  row-long ShedUb = rank-long (sheds c w r) _ (c .buses)
-  row-long ShedLb = rank-long (sheds c w r) _ (c .buses)
-  row-long PhaseUb = rank-long (flagged c w AngleFlags) _ (c .branches)
-  row-long PhaseLb = rank-long (flagged c w AngleFlags) _ (c .branches)
-  row-long Segment = one-long _ (c .segments)
-  row-long LinearEqual = each-long (rightSides c w r LinearEqual) (λ q. equalities (rowLimits c w r q)) (c .rows) (λ q h. equal-long (rowLimits c w r q))
-  row-long LinearLimit = each-long (rightSides c w r LinearLimit) (λ q. inequalities (rowLimits c w r q)) (c .rows) (λ q h. limit-long (rowLimits c w r q))
-
   row-word : (a : OpfRow) (i : ℕ) → i < rowSize c (activeOf c w r) a → side a i ≡ getD (rowWords c w r a) i nan
   unfolding bSheet rowStart
   row-word a i l =
       block-at (λ k. rowWords c w r (getD rows k Balance)) (rowSizes c (activeOf c w r)) 14
-      (λ k h. row-long (getD rows k Balance) ∙ sym (map-at (rowSize c (activeOf c w r)) Balance rows k h))
-      (rowRank a) i nan (row-below a) (rw (map-at (rowSize c (activeOf c w r)) Balance rows (rowRank a) (row-below a), row-ranked a) l)
-      ∙ ap (λ (b : OpfRow). getD (rowWords c w r b) i nan) (row-ranked a)
+      (λ k h. row-long c w r (getD rows k Balance) ∙ sym (map-at (rowSize c (activeOf c w r)) rows k Balance h))
+      (rowRank a) i nan (row-rank-below a) (rw (map-at (rowSize c (activeOf c w r)) rows (rowRank a) Balance (row-rank-below a), row-of-rank a) l)
+      ∙ ap (λ (b : OpfRow). getD (rowWords c w r b) i nan) (row-of-rank a)
 
   -- ---- balance
 
-  shift-turn : (f t : Bool) (e : ℕ) (x : Float) (y : Form) → x ≡ worth y
-      → subAt t (flowOffset c r e) (addAt f (flowOffset c r e) x) ≡ worth (cond t (cond f (y ⊕ shiftFlow own e) y ⊖ shiftFlow own e) (cond f (y ⊕ shiftFlow own e) y))
-  unfolding flowOffset
-  shift-turn true true e x y h = rw h
-  shift-turn true false e x y h = rw h
-  shift-turn false true e x y h = rw h
-  shift-turn false false e x y h = h
-
-  shift-is : (i n : ℕ) → turns (phaseTurn c w r i) nought n ≡ worth (busShiftTo own i n)
-  unfolding turns phaseTurn busShiftTo
-  shift-is i zero = refl
-  shift-is i (suc e) =
-      shift-turn (eqb (wire c w BrFrom e) i) (eqb (wire c w BrTo e) i) e (turns (phaseTurn c w r i) nought e) (busShiftTo own i e) (shift-is i e)
-
   pub balance-side : (i : ℕ) → i < c .buses → side Balance i ≡ worth (balance own i .right)
-  unfolding fixedAt networkAt phase
-  balance-side i l = row-word Balance i l ∙ one-at (fixedAt c w r) (c .buses) i nan l ∙ rw (shift-is i (c .branches))
+  balance-side i l = row-word Balance i l ∙ one-at (fixedAt c w r) (c .buses) i nan l ∙ fixed-is own r (λ p. nan) i
 
   pub flow-side : (e : ℕ) → e < c .branches → side FlowRow e ≡ worth (flowLaw own e .right)
   unfolding flowOffset
@@ -230,14 +150,14 @@ module _ (c : Counts) (w : List ℕ) (r : List Float) (ti : List ℕ) (tc : List
     equal-word k e m =
         row-word LinearEqual _ (omega (arith, equality-below c w r q (c .rows) 0 l (rw e m)))
         ∙ ap (λ (x : ℕ). getD (rowWords c w r LinearEqual) x nan) (omega arith)
-        ∙ run-at (rightSides c w r LinearEqual) (λ q. equalities (rowLimits c w r q)) (c .rows) (λ q h. equal-long (rowLimits c w r q)) q 0 nan l (rw e m)
+        ∙ each-at (rightSides c w r LinearEqual) (λ q. equalities (rowLimits c w r q)) (c .rows) (λ q h. equal-long c w r (rowLimits c w r q)) q 0 nan l (rw e m)
         ∙ rw e
 
     limit-word : (k : RowLimits) → rowLimits c w r q ≡ k → (t : ℕ) → t < inequalities k → side LinearLimit (inequalityRank c w r q + t) ≡ getD (limitSides c r k) t nan
     unfolding activeOf inequalityRank
     limit-word k e t m =
         row-word LinearLimit _ (inequality-below c w r q (c .rows) t l (rw e m))
-        ∙ run-at (rightSides c w r LinearLimit) (λ q. inequalities (rowLimits c w r q)) (c .rows) (λ q h. limit-long (rowLimits c w r q)) q t nan l (rw e m)
+        ∙ each-at (rightSides c w r LinearLimit) (λ q. inequalities (rowLimits c w r q)) (c .rows) (λ q h. limit-long c w r (rowLimits c w r q)) q t nan l (rw e m)
         ∙ rw e
 
     pub level-side : (y : Float) (x : ℕ) → rowLimits c w r q ≡ Equal y → side LinearEqual (equalityRank c w r q) ≡ worth (rowLevel own q x .right)

@@ -10,6 +10,9 @@ use lib.ListN.{getD}
 use lib.Ieee.{Float, nan}
 use borrow.Author.Tests.{ne-eqb}
 use Rattle.sequence.specs.Lists.{each}
+use Rattle.sequence.specs.Facts.{All}
+use Rattle.sequence.specs.Facts.All.{done, _&_}
+use Rattle.sequence.proofs.Facts.{all-append, all-each}
 use Rattle.network.specs.declared.Counts.{Counts}
 use Rattle.network.specs.declared.Part.the-variants.{References, GeneratorFlags, ThermalFlags, AngleFlags, FlowTerms, GenerationTerms}
 use Rattle.network.specs.Layout.{wire, reading, segmentsAt, segmentStart, termStart}
@@ -17,13 +20,10 @@ use Rattle.network.specs.Numbers.{Network, Wired, Termed, Accepted}
 use Rattle.model.specs.declared.RowLimits.{RowLimits}
 use Rattle.model.specs.declared.RowLimits.the-variants.{None, Upper, Lower, Both, Equal}
 use Rattle.model.specs.Rows.{rowLimits}
-use Rattle.sens_snap.proofs.Segments.{segment-inside}
 use Rattle.snapping.specs.Expr.{Expr, unit, lessUnit}
 use Rattle.snapping.specs.Expr.Expr.{num, _⊗_}
 use Rattle.kkt_index.specs.Index.{shapeOf}
-use Rattle.kkt_laws.specs.Laws.{All}
-use Rattle.kkt_laws.specs.Laws.All.{done, _&_}
-use Rattle.kkt_laws.proofs.Every.{all-append, all-each}
+use Rattle.kkt_index.proofs.Segments.{segment-inside}
 use Rattle.opf_layout.specs.declared.OpfColumn.{OpfColumn}
 use Rattle.opf_layout.specs.declared.OpfColumn.the-variants.{Va, Pg, Flow, Shed, Cost}
 use Rattle.opf_layout.specs.declared.OpfRow.{OpfRow}

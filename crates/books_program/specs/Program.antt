@@ -1,6 +1,6 @@
 -- What `assemble_opf` must give by the manual: the rows and right sides of its constraints, the Hessian and the costs, in 01's layout.
 -- The solver's form is min 1/2 x'Px + q'x with Ax + s = b: a row is a constraint's gradient, and its right side.
--- Main definitions: `RowIs`, `HessianIs`, `CostIs`, `Any`, `ProgramIs`. Assumes nothing.
+-- Main definitions: `RowIs`, `HessianIs`, `CostIs`, `ProgramIs`. Assumes nothing.
 use Prim.Native.Nat.{ℕ, _+_, _<_}
 use mathlib.Core.Path.{_≡_}
 use mathlib.Core.Bool.{Bool, true, false, not, _&&_}
@@ -10,11 +10,11 @@ use lib.Dec.{eqb}
 use lib.Ieee.{Float, nan, binary64, add, eq}
 use Rattle.float64.specs.Values.{nought}
 use Rattle.sequence.specs.Lists.{when}
+use Rattle.sequence.specs.Facts.{All, Any}
 use Rattle.network.specs.declared.Counts.{Counts}
 use Rattle.network.specs.Layout.{reading, segmentsAt}
 use Rattle.solution.specs.Sheet.{pieceRank}
 use Rattle.kkt_index.specs.declared.Block.the-variants as blocks
-use Rattle.kkt_laws.specs.Laws.{All}
 use Rattle.change_table.specs.Table.{valuesAt}
 use Rattle.opf_layout.specs.declared.OpfColumn.{OpfColumn}
 use Rattle.opf_layout.specs.declared.OpfColumn.the-variants.{Va, Pg, Flow, Shed, Cost}
@@ -53,11 +53,6 @@ together a k = eqb (rowRank a) (rowRank Balance) && eqb (columnRank k) (columnRa
 abbrev pub Holds : Bool → List Float → List Float → Type 0
 Holds true written due = Alike (summed nought written) (summed nought due)
 Holds false written due = written ≡ due
-
--- a fact of some element of a list
-pub data Any {A : Type 0} (P : A → Type 0) : List A → Type 0 where
-  here : {x : A} {xs : List A} → P x → Any P (x ∷ xs)
-  there : {x : A} {xs : List A} → Any P xs → Any P (x ∷ xs)
 
 module _ (c : Counts) (w : List ℕ) (r : List Float) (ti : List ℕ) (tc : List Float) where
   -- no unknown stands in a row, a right side or a cost

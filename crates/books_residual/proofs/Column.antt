@@ -11,6 +11,9 @@ use borrow.Author.Tests.{eqb-true}
 use Rattle.float64.specs.Values.{rawLimit, inRange, baseLow, baseHigh}
 use Rattle.sequence.specs.Lists.{every}
 use Rattle.sequence.proofs.Lists.{and-left, every-at}
+use Rattle.sequence.specs.Facts.{All}
+use Rattle.sequence.specs.Facts.All.{done, _&_}
+use Rattle.sequence.proofs.Facts.{all-map}
 use Rattle.network.specs.declared.Counts.{Counts}
 use Rattle.network.specs.declared.Field.the-variants.{BaseMva}
 use Rattle.network.specs.Layout.{reading}
@@ -18,8 +21,6 @@ use Rattle.network.specs.Numbers.{Network, inRank, fieldHolds, allWithin, readi
 use Rattle.solution.specs.Sheet.{pieces}
 use Rattle.kkt_index.specs.declared.Block.{Block}
 use Rattle.kkt_index.specs.Index.{rank, linearStart}
-use Rattle.kkt_laws.specs.Laws.{All}
-use Rattle.kkt_laws.specs.Laws.All.{done, _&_}
 use Rattle.parameter_column.specs.declared.Served.{Served}
 use Rattle.parameter_column.specs.declared.Served.the-variants as served
 use Rattle.parameter_column.specs.Columns.{elements}
@@ -61,11 +62,6 @@ module _ (z : Given) where
       go : (t : Bool) → among (rank b) (special k) ≡ t → Claim z k i b j f
       go true e = find (At z k i) (special k) b (moving k i l) e j f h row
       go false e = quiet z k i b j f e row
-
-module _ {A : Type 0} {P Q : A → Type 0} (t : (x : A) → P x → Q x) where
-  all-map : {l : List A} → All P l → All Q l
-  all-map done = done
-  all-map (p & ps) = t _ p & all-map ps
 
 pub column-is-the-derivative : (c : Counts) (w : List ℕ) (r : List Float) (ti : List ℕ) (tc s : List Float) (k : Served) (i : ℕ) → Wired c w → Doubles s
     → inRange baseLow baseHigh (reading c r BaseMva 0) ≡ true → i < elements c k → ColumnIs c w r ti tc s k i

@@ -14,6 +14,8 @@ use lib.Ieee.{Float, nan}
 use Rattle.float64.specs.Values.{inRange, baseLow, baseHigh}
 use Rattle.sequence.specs.Lists.{before, each}
 use Rattle.sequence.proofs.Blocks.{inside}
+use Rattle.sequence.specs.Facts.{All}
+use Rattle.sequence.specs.Facts.All.{done, _&_}
 use Rattle.network.specs.declared.Counts.{Counts}
 use Rattle.network.specs.declared.Field.the-variants.{BaseMva}
 use Rattle.network.specs.Layout.{reading, segmentsAt, segmentStart}
@@ -24,8 +26,6 @@ use Rattle.kkt_index.specs.declared.Block.the-variants.{Va, Pg, Flow, Psh, Cost
 use Rattle.kkt_index.specs.Index.{Shape, width, rank, sizes, linearStart, linearRows, blockStart, dim}
 use Rattle.kkt_index.specs.Index.Shape.{free, upperOnly, lowerOnly, twoSided, equality}
 use Rattle.kkt_index.proofs.Blocks.{block-size, blocks-apart}
-use Rattle.kkt_laws.specs.Laws.{All}
-use Rattle.kkt_laws.specs.Laws.All.{done, _&_}
 use Rattle.parameter_column.specs.declared.Served.{Served}
 use Rattle.parameter_column.specs.Columns.{columnWords, elements}
 use Rattle.books.specs.Forms.{Place, none, Alike}

@@ -1,42 +1,34 @@
--- The laws of binary64 that the columns need, the sign of a zero set aside: sums with +0, the negative of a sum, products by 1 and −1, a value over itself.
+-- The laws of binary64 that the columns need, the sign of a zero set aside: sums with +0, the negative of a sum, a value over itself.
 -- Main results: `plus-left`, `plus-right`, `nought-plus`, `neg-add`, `over-itself`. Assumes nothing.
 use mathlib.Core.Path.{_≡_, refl, sym, ap, _∙_, subst}
 use mathlib.Core.Bool.{Bool, true, false, cond, _||_}
-use Prim.Native.Nat.{ℕ, zero, suc, _+_, _-_, _*_, _<_}
+use Prim.Native.Nat.{ℕ, zero, suc, _-_, _*_, _<_}
 use native.Mathlib.Nat.{mul-pos, zero-lt-suc}
 use native.Mathlib.Omega.{arith}
 use lib.IntN.{ℤ}
 use lib.Dec.{T}
-use lib.Ieee.{Float, nan, inf, fin, binary64, up, down, unlike, neg, add, sum, mul, div, below, level, lt, le, eq, fits, round, ofInt, ofBits}
+use lib.Ieee.{Float, nan, inf, fin, binary64, up, down, unlike, neg, add, div, below, level, lt, le, eq, fits, round, ofInt, ofBits}
 use lib.Ieee.Fits.{up-pos, down-pos}
 use lib.Ieee.Scale.{round-same}
 use borrow.Author.Tests.{le-ltb, ne-eqb}
 use Rattle.float64.specs.Values.{nought, one, whole, baseLow, baseHigh, inRange}
-use Rattle.float64.proofs.Signs.{mul-neg-right, mul-one-right}
 use Rattle.float64.proofs.Zeros.{nought-add}
-use Rattle.sequence.proofs.Lists.{and-left}
+use Rattle.sequence.proofs.Lists.{and-left, never}
 use Rattle.books.specs.Forms.{plain, Alike}
 use Rattle.books.proofs.Zeros as laws
-use Rattle.books.proofs.Doubles.{add-neg, none-zero, nought-fits}
-use Rattle.books.proofs.Zeros.Alike.{same, zeros}
+use Rattle.books.proofs.Doubles.{add-neg, none-zero, nought-fits, plainly}
+use Rattle.books.proofs.Zeros.SameOrZeros.{same, zeros}
 
 -- ---- one value, or two zeros
 
-never : {A : Type 0} → false ≡ true → A
-never e = absurd (subst T (sym e) tt)
-
-pub alike : {x y : Float} → laws.Alike x y → Alike x y
-alike same = refl
-alike (zeros p q) = rw (p, q)
-
-back : (x y : Float) → Alike x y → laws.Alike x y
+back : (x y : Float) → Alike x y → laws.SameOrZeros x y
 back x y h = go (eq x nought) (eq y nought) refl refl h
   where
-    go : (a b : Bool) → eq x nought ≡ a → eq y nought ≡ b → cond a nought x ≡ cond b nought y → laws.Alike x y
+    go : (a b : Bool) → eq x nought ≡ a → eq y nought ≡ b → cond a nought x ≡ cond b nought y → laws.SameOrZeros x y
     go true true p q h = zeros p q
     go true false p q h = never (sym q ∙ ap (λ (z : Float). eq z nought) (sym h) ∙ none-zero)
     go false true p q h = never (sym p ∙ ap (λ (z : Float). eq z nought) h ∙ none-zero)
-    go false false p q h = subst (λ (z : Float). laws.Alike x z) h same
+    go false false p q h = subst (λ (z : Float). laws.SameOrZeros x z) h same
 
 pub zeros-alike : (x y : Float) → eq x nought ≡ true → eq y nought ≡ true → Alike x y
 zeros-alike x y p q = rw (p, q)
@@ -44,38 +36,26 @@ zeros-alike x y p q = rw (p, q)
 -- ---- sums
 
 pub plus-left : (x y z : Float) → T (fits binary64 z) → Alike x y → Alike (add binary64 x z) (add binary64 y z)
-plus-left x y z h a = alike (laws.alike-add x y z h (back x y a))
+plus-left x y z h a = plainly (laws.alike-add x y z h (back x y a))
 
 pub plus-right : (x y z : Float) → T (fits binary64 x) → Alike y z → Alike (add binary64 x y) (add binary64 x z)
 plus-right x y z h a = go y z (back y z a)
   where
-    go : (y z : Float) → laws.Alike y z → Alike (add binary64 x y) (add binary64 x z)
+    go : (y z : Float) → laws.SameOrZeros y z → Alike (add binary64 x y) (add binary64 x z)
     go y z same = refl
-    go y z (zeros p q) = sym (alike (laws.alike-skip-add x x y h p same)) ∙ alike (laws.alike-skip-add x x z h q same)
+    go y z (zeros p q) = sym (plainly (laws.alike-skip-add x x y h p same)) ∙ plainly (laws.alike-skip-add x x z h q same)
 
 pub nought-plus : (x : Float) → T (fits binary64 x) → Alike (add binary64 nought x) x
 nought-plus x h = go (eq x nought) refl
   where
     go : (b : Bool) → eq x nought ≡ b → Alike (add binary64 nought x) x
-    go true e = sym (alike (laws.alike-skip-add nought nought x nought-fits e same)) ∙ zeros-alike nought x none-zero e
+    go true e = sym (plainly (laws.alike-skip-add nought nought x nought-fits e same)) ∙ zeros-alike nought x none-zero e
     go false e = ap plain (nought-add x h e)
-
-pub neg-alike : (x y : Float) → Alike x y → Alike (neg x) (neg y)
-neg-alike x y h = alike (laws.alike-neg x y (back x y h))
 
 -- ---- the negative of a sum
 
 pub neg-add : (x y : Float) → Alike (neg (add binary64 x y)) (add binary64 (neg x) (neg y))
-neg-add x y = sym (alike (add-neg x y))
-
--- ---- products by 1 and −1
-
-pub one-right : (x : Float) → T (fits binary64 x) → mul binary64 x one ≡ x
-unfolding ofBits
-one-right x h = mul-one-right x h
-
-pub less-right : (x : Float) → T (fits binary64 x) → mul binary64 x (neg one) ≡ neg x
-less-right x h = mul-neg-right x one ∙ ap neg (one-right x h)
+neg-add x y = sym (plainly (add-neg x y))
 
 -- ---- a value over itself
 

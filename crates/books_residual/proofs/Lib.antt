@@ -11,4 +11,3 @@ pub mod Ends
 pub mod Branches
 pub mod Column
 pub mod Covered
-pub mod Bench

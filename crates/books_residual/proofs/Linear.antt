@@ -30,10 +30,11 @@ use Rattle.books.specs.Manual.{rowStart, rowValue}
 use Rattle.books.specs.Matrix.{sidesOf, unknown}
 use Rattle.books.proofs.Words.{linear-word}
 use Rattle.books.proofs.Doubles.{nought-fits}
+use Rattle.books.proofs.Pairs.{by-one, by-less}
 use Rattle.books_residual.specs.Rates.{Rate, rate, formOf}
 use Rattle.books_residual.specs.Rates.Rate.{still}
 use Rattle.books_residual.specs.Columns.{direction}
-use Rattle.books_residual.proofs.Doubles.{one-right, less-right, over-itself}
+use Rattle.books_residual.proofs.Doubles.{over-itself}
 use Rattle.books_residual.proofs.Places.{placed}
 use Rattle.books_residual.proofs.Rows.{LinearAt}
 use Rattle.books_residual.proofs.Still.{names-value}
@@ -137,10 +138,10 @@ module _ (z : Given) where
 
   -- a multiplier times base over base
   upper-worth : (q x : ℕ) → unknownAt x ≡ upperAt q → upperAt q ≡ mul binary64 (unknownAt x) (div binary64 (R z BaseMva 0) (R z BaseMva 0))
-  upper-worth q x e = rw (e, over-itself (R z BaseMva 0) (z .base)) (sym (one-right (upperAt q) (upper-fits q)))
+  upper-worth q x e = rw (e, over-itself (R z BaseMva 0) (z .base)) (sym (by-one (upperAt q) (upper-fits q)))
 
   lower-worth : (q x : ℕ) → unknownAt x ≡ lowerAt q → neg (lowerAt q) ≡ mul binary64 (unknownAt x) (neg (div binary64 (R z BaseMva 0) (R z BaseMva 0)))
-  lower-worth q x e = rw (e, over-itself (R z BaseMva 0) (z .base)) (sym (less-right (lowerAt q) (lower-fits q)))
+  lower-worth q x e = rw (e, over-itself (R z BaseMva 0) (z .base)) (sym (by-less (lowerAt q) (lower-fits q)))
 
   own-row : (q : ℕ) → q < z .counts .rows → (g : Shape) → shape q ≡ g → (x : ℕ) (f : Form) → LinearAt (site z) g q (start q) x f
       → Alike (placed (moves g q) (Linear, x) nought) (worth z (formOf (rate (direction served.ConstraintLimit q) f)))

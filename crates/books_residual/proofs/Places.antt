@@ -12,12 +12,12 @@ use borrow.Author.Tests.{eq-eqb, ne-eqb, eqb-true}
 use Rattle.float64.specs.Values.{nought}
 use Rattle.sequence.proofs.Lists.{made-at}
 use Rattle.sequence.proofs.Blocks.{inside}
+use Rattle.sequence.specs.Facts.{All}
+use Rattle.sequence.specs.Facts.All.{done, _&_}
 use Rattle.network.specs.declared.Counts.{Counts}
 use Rattle.kkt_index.specs.declared.Block.{Block}
 use Rattle.kkt_index.specs.Index.{rank, size, sizes, linearRows, blockStart, dim}
 use Rattle.kkt_index.proofs.Blocks.{block-size, blocks-apart}
-use Rattle.kkt_laws.specs.Laws.{All}
-use Rattle.kkt_laws.specs.Laws.All.{done, _&_}
 use Rattle.parameter_column.specs.declared.Served.{Served}
 use Rattle.parameter_column.specs.Columns.{Touch, touched, wordOf, touches, columnWords}
 use Rattle.books.specs.Forms.{Place}

@@ -11,17 +11,18 @@ use lib.Ieee.{Float}
 use borrow.Author.Tests.{eqb-true, not-true}
 use Rattle.sequence.specs.Lists.{every}
 use Rattle.sequence.proofs.Lists.{and-left, and-right, every-at, before-within}
+use Rattle.sequence.specs.Facts.{All}
+use Rattle.sequence.specs.Facts.All.{done, _&_}
 use Rattle.network.specs.declared.Field.{Field}
 use Rattle.network.specs.declared.Field.the-variants.{Susceptance, Sw, FlowOffset, Fmax, Cq, Cl, Demand, UpperMw, LowerMw}
 use Rattle.network.specs.Layout as network
 use Rattle.model.specs.Rows.{rowLimits}
 use Rattle.solution.specs.Sheet.{pieces}
 use Rattle.kkt_index.specs.declared.Block.{Block}
-use Rattle.kkt_index.specs.declared.Block.the-variants.{Va, Pg, Flow, Psh, Cost, LamLb, LamUb, GammaLb, GammaUb, RhoLb, RhoUb, MuLb, MuUb, Segments, Linear, NuBal, NuFlow, Eta}
+use Rattle.kkt_index.specs.declared.Block.the-variants.{Va, Pg, LamLb, LamUb, GammaLb, GammaUb, MuUb, Linear, NuBal, NuFlow}
 use Rattle.kkt_index.specs.Index.{Shape, shapeOf, width, blocks, rank, rowsAt, linearStart, linearRows}
 use Rattle.kkt_index.specs.Index.Shape.{free, upperOnly, lowerOnly, twoSided, equality}
-use Rattle.kkt_laws.specs.Laws.{All}
-use Rattle.kkt_laws.specs.Laws.All.{done, _&_}
+use Rattle.kkt_index.proofs.Blocks.{block-of-rank, rank-below}
 use Rattle.parameter_column.specs.declared.Served.{Served}
 use Rattle.parameter_column.specs.declared.Served.the-variants as served
 use Rattle.parameter_column.specs.Columns.{Touch, touched, valued, limitMarks, elements}
@@ -109,34 +110,10 @@ all-fair served.BranchSusceptance = refl
 all-fair served.Switching = refl
 all-fair served.ConstraintLimit = refl
 
-record Ranked (b : Block) : Type 0 where
-  below : rank b < 18
-  is : getD blocks (rank b) Va ≡ b
-
-ranked : (b : Block) → Ranked b
-ranked Va = record { below = omega arith; is = refl }
-ranked Pg = record { below = omega arith; is = refl }
-ranked Flow = record { below = omega arith; is = refl }
-ranked Psh = record { below = omega arith; is = refl }
-ranked Cost = record { below = omega arith; is = refl }
-ranked LamLb = record { below = omega arith; is = refl }
-ranked LamUb = record { below = omega arith; is = refl }
-ranked GammaLb = record { below = omega arith; is = refl }
-ranked GammaUb = record { below = omega arith; is = refl }
-ranked RhoLb = record { below = omega arith; is = refl }
-ranked RhoUb = record { below = omega arith; is = refl }
-ranked MuLb = record { below = omega arith; is = refl }
-ranked MuUb = record { below = omega arith; is = refl }
-ranked Segments = record { below = omega arith; is = refl }
-ranked Linear = record { below = omega arith; is = refl }
-ranked NuBal = record { below = omega arith; is = refl }
-ranked NuFlow = record { below = omega arith; is = refl }
-ranked Eta = record { below = omega arith; is = refl }
-
 not-special : (k : Served) (b : Block) → among (rank b) (special k) ≡ false → apart (fieldsOf b) (moved k) ≡ true
 not-special k b h =
-    let q = every-at (fair k) 18 (all-fair k) (rank b) (ranked b .below) in
-    ap (λ (x : Block). apart (fieldsOf x) (moved k)) (sym (ranked b .is)) ∙ rw h at q
+    let q = every-at (fair k) 18 (all-fair k) (rank b) (rank-below b) in
+    ap (λ (x : Block). apart (fieldsOf x) (moved k)) (sym (block-of-rank b)) ∙ rw h at q
 
 -- ---- the port's touches
 

@@ -7,6 +7,9 @@ use Prim.Native.Nat.{ℕ, _+_, _≤_, _<_}
 use native.Mathlib.Omega.{arith}
 use lib.Dec.{eqb}
 use Rattle.sequence.proofs.Lists.{before-within}
+use Rattle.sequence.specs.Facts.{All}
+use Rattle.sequence.specs.Facts.All.{done, _&_}
+use Rattle.sequence.proofs.Facts.{all-append, all-each}
 use Rattle.network.specs.Layout.{segmentsAt, segmentStart}
 use Rattle.network.specs.Numbers.{Wired}
 use Rattle.model.proofs.Runs.{segments-inside}
@@ -15,9 +18,6 @@ use Rattle.kkt_index.specs.declared.Block.{Block}
 use Rattle.kkt_index.specs.declared.Block.the-variants.{Va, Pg, Flow, Psh, Cost, LamLb, LamUb, GammaLb, GammaUb, RhoLb, RhoUb, MuLb, MuUb, Segments, Linear, NuBal, NuFlow, Eta}
 use Rattle.kkt_index.specs.Index.{Shape, width, size}
 use Rattle.kkt_index.specs.Index.Shape.{free, upperOnly, lowerOnly, twoSided, equality}
-use Rattle.kkt_laws.specs.Laws.{All}
-use Rattle.kkt_laws.specs.Laws.All.{done, _&_}
-use Rattle.kkt_laws.proofs.Every.{all-append, all-each}
 use Rattle.books.specs.Forms.{Place, Form, none, unit}
 use Rattle.books.specs.Forms.Form.{var, _⊖_}
 use Rattle.books.specs.Manual.{Site, rowStart, flowFloor, flowCeiling, angleFloor, angleCeiling, generatorFloor, generatorCeiling, shedNone, shedFloor, shedSpare, shedCeiling, segment, rowCeiling, rowFloor}

@@ -6,12 +6,12 @@ use mathlib.Core.List.{List}
 use lib.ListN.{getD}
 use lib.Dec.{eqb}
 use lib.Ieee.{Float, nan}
+use Rattle.sequence.specs.Facts.{All}
 use Rattle.network.specs.declared.Counts.{Counts}
 use Rattle.network.specs.declared.Field.{Field}
 use Rattle.network.specs.declared.Field.the-variants.{BaseMva, Susceptance, Sw, Shift, FlowOffset, Fmax, Cq, Cl, Demand, UpperMw, LowerMw}
 use Rattle.network.specs.Layout.{rank}
 use Rattle.solution.specs.Sheet.{pieces}
-use Rattle.kkt_laws.specs.Laws.{All}
 use Rattle.parameter_column.specs.declared.Served.{Served}
 use Rattle.parameter_column.specs.declared.Served.the-variants as served
 use Rattle.parameter_column.specs.Columns.{columnWords}

@@ -3,7 +3,7 @@
 use mathlib.Core.Path.{_≡_, refl, sym, ap, _∙_}
 use mathlib.Core.Bool.{Bool, true, false, _&&_}
 use mathlib.Core.List.{List, [], _++_, append-nil}
-use Prim.Native.Nat.{ℕ, _*_, _/_, _%_, _≤_, min}
+use Prim.Native.Nat.{ℕ, _*_, _/_, _%_, _≤_}
 use native.Mathlib.Omega.{arith}
 use native.Mathlib.Decide.{ℕ-discrete}
 use lib.Dec.{eqb}
@@ -20,10 +20,7 @@ use Rattle.sequence.proofs.Fronts.{take-front}
 use Rattle.words.specs.Words.{doubleAt, wordsOf, doublesOf, doubleBytes}
 use Rattle.words.proofs.Laws.{doubleBytes-length}
 use Rattle.network.specs.Numbers.{Network, sizesHold}
-use Rattle.network.proofs.Tests.{sized-few}
-use Rattle.solution.specs.Sheet.{sheetLength}
-use Rattle.solution_check.specs.Tests.{counted, piecesOf, solutionLong, solutionHolds, solutionTests}
-use Rattle.solution_check.proofs.Own.{few-pieces}
+use Rattle.solution_check.specs.Tests.{solutionLong, solutionHolds, solutionTests}
 use Rattle.kkt.specs.Slots.{Rule}
 use Rattle.kkt_laws.proofs.Bound.{list-length}
 use Rattle.decoding.specs.Exports.{Outs, outs, packed, whole, laidOut}

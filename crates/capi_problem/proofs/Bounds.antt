@@ -1,7 +1,7 @@
 -- How large a program gets: what is active in a network of few elements is few, and so are the program's columns and rows.
 -- Main results: `bounded`, `columns-few`, `rows-few`. Assumes nothing.
 use mathlib.Core.Path.{_≡_}
-use mathlib.Core.Bool.{Bool, true, false, cond}
+use mathlib.Core.Bool.{true}
 use mathlib.Core.List.{List}
 use Prim.Native.Nat.{ℕ, _*_, _≤_}
 use native.Mathlib.Omega.{arith}
@@ -16,18 +16,10 @@ use Rattle.model.specs.Rows.{rowLimits}
 use Rattle.model.proofs.Calls.{both-equal}
 use Rattle.solution_check.specs.Tests.{counted}
 use Rattle.solution_check.proofs.Own.{few-pieces}
-use Rattle.opf_layout.specs.Layout.{activeRank, equalities, inequalities, equalityRank, inequalityRank, activeOf, Bounded, nvar, ncon}
+use Rattle.opf_layout.specs.Layout.{equalities, inequalities, equalityRank, inequalityRank, activeOf, Bounded, nvar, ncon}
 use Rattle.opf_layout.proofs.Counting.{equalities-few, inequalities-few, nvar-few, ncon-few}
+use Rattle.opf_layout.proofs.Ranks.{rank-few}
 use Rattle.raw_check.specs.Tests.{activeIn, rawLong}
-
-one : (b : Bool) → cond b 1 0 ≤ 1
-one true = omega arith
-one false = omega arith
-
--- no more are active than there are
-rank-few : (on : ℕ → Bool) (n : ℕ) → activeRank on n ≤ n
-unfolding activeRank
-rank-few on n = omega (arith, before-bound (λ i. cond (on i) 1 0) 1 n (λ i h. one (on i)))
 
 module _ (c : Counts) (w : List ℕ) (r : List Float) where
   equality-few : equalityRank c w r (c .rows) ≤ c .rows

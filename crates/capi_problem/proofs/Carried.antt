@@ -12,7 +12,7 @@ use borrow.Author.Tests.{ne-eqb, ltb-false}
 use Rattle.sequence.specs.Lists.{front}
 use Rattle.sequence.specs.Answers.{Test, firstOf, marked, short}
 use Rattle.sequence.specs.Sheets.{Triplet, rowsOf, colsOf, valuesOf, room, shortList}
-use Rattle.sequence.proofs.Lists.{made-length, front-length}
+use Rattle.sequence.proofs.Lists.{made-length, front-length, or-none}
 use Rattle.sequence.proofs.Fronts.{take-front}
 use Rattle.words.specs.Words.{wordAt, doubleAt, wordsOf, doublesOf, wordBytes, doubleBytes}
 use Rattle.network.specs.Layout.{countsOf}
@@ -65,10 +65,6 @@ module _ (m : ℕ) (x : Parts) (s : Program) where
 
 -- ---- parts that have room lie in their cells, and their bytes in the slices
 
-or-false : (a b : Bool) → a || b ≡ false → (a ≡ false) × (b ≡ false)
-or-false true b e = let z : _≡_ {A = Bool} true false = e in (z, cc)
-or-false false b e = (refl, e)
-
 list-fits : (most : ℕ) (xs : List Triplet) (r c : List ℕ) (v : List Float) (R C X : List ℕ) → most < 0x100_0000 → ListCells most (length R) (length C) (length X) (length r) (length c) (length v) → shortList xs r c v ≡ false
     → ListFits (length xs) (front (rowsOf xs) r) (front (colsOf xs) c) (front (valuesOf xs) v) R C X
 list-fits most xs r c v R C X m h e =
@@ -106,10 +102,10 @@ parts-fit : (x : Parts) (s : Program) (B : Bytes) → ProgramCells B s → short
     × (ListFits (length (x .a)) (fronts x s .a-rows) (fronts x s .a-cols) (fronts x s .a-values) (B .a-rows) (B .a-cols) (B .a-values)
     × SidesFit (sidesOf x) (fronts x s .q) (fronts x s .b) (fronts x s .cones) (B .q) (B .b) (B .cones))
 parts-fit x s B h e =
-    let p = or-false (shortList (x .p) (s .p-rows) (s .p-cols) (s .p-values)) _ e in
-    let a = or-false (shortList (x .a) (s .a-rows) (s .a-cols) (s .a-values)) _ (p .1) in
-    let q = or-false (short (x .q) (s .q)) _ (a .1) in
-    let b = or-false (short (x .b) (s .b)) _ (q .1) in (
+    let p = or-none (shortList (x .p) (s .p-rows) (s .p-cols) (s .p-values)) _ e in
+    let a = or-none (shortList (x .a) (s .a-rows) (s .a-cols) (s .a-values)) _ (p .1) in
+    let q = or-none (short (x .q) (s .q)) _ (a .1) in
+    let b = or-none (short (x .b) (s .b)) _ (q .1) in (
       list-fits 256 (x .p) (s .p-rows) (s .p-cols) (s .p-values) (B .p-rows) (B .p-cols) (B .p-values) (omega arith) (h .of-p) (p .0),
       (list-fits 12304 (x .a) (s .a-rows) (s .a-cols) (s .a-values) (B .a-rows) (B .a-cols) (B .a-values) (omega arith) (h .of-a) (a .0), sides-fit x s B h (q .0) (b .0) (b .1)),
     )

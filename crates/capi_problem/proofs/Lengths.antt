@@ -16,8 +16,8 @@ use Rattle.opf_layout.specs.declared.OpfLayout.{OpfLayout}
 use Rattle.opf_layout.specs.Layout.{activeOf, nvar, ncon, alsoIf, cones, Placed}
 use Rattle.opf_layout.proofs.Counting.{nvar-few, ncon-few}
 use Rattle.opf_assembly.specs.Assembly.{qSheet, bSheet}
+use Rattle.opf_assembly.proofs.Lengths.{q-long, b-long}
 use Rattle.opf_sides.specs.Walks.{conesIn}
-use Rattle.opf_sides.proofs.Lengths.{q-long, b-long}
 use Rattle.opf_sides.proofs.Cones.{cones-are}
 use Rattle.opf_problem.specs.Calls.{Parts, partsOf}
 use Rattle.opf_problem.proofs.Bound.{a-length, p-length}

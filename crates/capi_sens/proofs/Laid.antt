@@ -13,7 +13,6 @@ use Rattle.words.specs.Words.{wordsOf, doublesOf}
 use Rattle.network.specs.Numbers.{Network, sizesHold}
 use Rattle.solution_check.specs.Tests.{counted, solutionLong, solutionHolds, solutionTests}
 use Rattle.kkt.specs.Slots.{Rule}
-use Rattle.kkt.specs.Matrix.{most}
 use Rattle.kkt_laws.proofs.Bound.{list-length}
 use Rattle.sens_dc.specs.Calls.{listOf, matrixNumber, matrixCall}
 use Rattle.decoding.specs.Exports.{outs, packed, laidOut}

@@ -12,10 +12,10 @@ use Rattle.sequence.proofs.Lists.{made-length}
 use Rattle.words.specs.Words.{doublesOf}
 use Rattle.network.specs.Numbers.{Network, sizesHold}
 use Rattle.snapping.specs.Snap.{snapSheet, dualSheet, nuFlowSheet}
+use Rattle.snapping.proofs.Words.{snap-long, dual-long}
 use Rattle.solution_check.specs.Tests.{counted, piecesOf, solutionLong, solutionHolds, solutionTests}
 use Rattle.solution_check.proofs.Own.{few-pieces}
 use Rattle.sens_snap.specs.Calls.{snapNumber, sheetCall}
-use Rattle.sens_snap.proofs.Words.{snap-long, dual-long}
 use Rattle.decoding.specs.Exports.{out, filledOut}
 use Rattle.decoding.specs.Decoding.{Cells}
 use Rattle.decoding.proofs.Answered.{passed-network, few-counts, sheet-answer, sheet-count, sheet-one}

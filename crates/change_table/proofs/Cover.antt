@@ -9,7 +9,10 @@ use native.Mathlib.Omega.{arith}
 use lib.ListN.{length, getD}
 use lib.Dec.{T, eqb, ltb, ltb→lt, eqb→eq}
 use lib.Ieee.{Float}
-use Rattle.sequence.specs.Lists.{each, when}
+use Rattle.sequence.specs.Lists.{when}
+use Rattle.sequence.specs.Facts.{All}
+use Rattle.sequence.specs.Facts.All.{done, _&_}
+use Rattle.sequence.proofs.Facts.{all-append, all-each, all-when}
 use Rattle.network.specs.declared.Counts.{Counts}
 use Rattle.network.specs.declared.Field.{Field}
 use Rattle.network.specs.declared.Field.the-variants.{BaseMva, Susceptance, Sw, Shift, FlowOffset, Fmax, Angmin, Angmax, Gmin, Gmax, Cq, Cl, Cc, CShed, Demand, ShuntConductance, HvdcInjection, Slopes, Intercepts, UpperMw, LowerMw}
@@ -29,9 +32,6 @@ use Rattle.snapping.specs.Snap.{shedOf, segmentSlack, dot, rowValue, upperSlack
 use Rattle.kkt.specs.declared.Side.{Side}
 use Rattle.kkt.specs.declared.Side.the-variants.{Above, Below, Level}
 use Rattle.kkt.specs.Slots.{Slot, Site, Rule, startOf, weightOf, gatherAt, branchPart, branchParts, endSlots, incident, vaColumn, referenceSlot, nuBalColumn, pshColumn, muLbColumn, muUbColumn, gammaLbColumn, gammaUbColumn, nuFlowColumn, pgOwn, pgSegment, costSegment, segmentColumn, segmentsOf, termPair, diagonal, sideSlots, rowSlots, rowPart, columnPart, columns, turnsOf, emission, emissionAt, slots}
-use Rattle.kkt_laws.specs.Laws.{All}
-use Rattle.kkt_laws.specs.Laws.All.{done, _&_}
-use Rattle.kkt_laws.proofs.Every.{all-append, all-each, all-when}
 use Rattle.change_table.specs.Table.{Pair, cellsOf}
 use Rattle.change_table.proofs.Agree.{Within}
 

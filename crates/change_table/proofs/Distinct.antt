@@ -25,7 +25,7 @@ use Rattle.kkt_index.specs.declared.Block.the-variants.{Va, Pg, Flow, Psh, Cost
 use Rattle.kkt_index.specs.Index as index
 use Rattle.kkt_index.proofs.Blocks.{blocks-apart}
 use Rattle.change_table.proofs.Among.{either-true}
-use Rattle.change_table.specs.Table.{Cell, Pair, kinds, isKind, fieldOf, cellsOf, cellAt, cellsAt, namedCells, sameCell, among, distinct}
+use Rattle.change_table.specs.Table.{Cell, Pair, isKind, fieldOf, cellsOf, cellAt, cellsAt, namedCells, sameCell, among, distinct}
 
 -- ---- cells as codes
 

@@ -3,8 +3,9 @@
 use Prim.Native.Nat.{ℕ, zero, suc, _+_, _≤_, _<_}
 use mathlib.Core.Path.{_≡_, refl, sym, ap, ap₂, subst, _∙_}
 use mathlib.Core.Logic.{inl, inr}
-use mathlib.Core.Bool.{Bool, true, false, not, _||_}
+use mathlib.Core.Bool.{Bool, true, false, not}
 use mathlib.Core.List.{List, [], _∷_, _++_}
+use mathlib.Mathlib.Data.Bool.Basic.{or-inl, or-inr}
 use native.Mathlib.Omega.{arith}
 use lib.ListN.{length, set}
 use lib.Seq.{getD-set-other}
@@ -16,6 +17,8 @@ use Rattle.float64.specs.Values.{nought}
 use Rattle.sequence.specs.Lists.{every, when}
 use Rattle.sequence.specs.Sheets.{Triplet, triplet, emit}
 use Rattle.sequence.proofs.Lists.{and-left, and-right, every-at, before-same, each-same}
+use Rattle.sequence.specs.Facts.{All}
+use Rattle.sequence.specs.Facts.All.{done, _&_}
 use Rattle.network.specs.declared.Counts.{Counts}
 use Rattle.network.specs.declared.Field.{Field}
 use Rattle.network.specs.declared.Field.the-variants.{UpperMw, LowerMw}
@@ -31,8 +34,6 @@ use Rattle.kkt_index.specs.Index.{Shape, shapeOf, linearStart, linearRows, bloc
 use Rattle.snapping.specs.Expr.{eval}
 use Rattle.kkt.specs.Slots.{Slot, Rule, rowSlots, siteOf, startOf, columns, turnsOf, emission, emissionAt, slots}
 use Rattle.kkt.specs.Matrix.{emitted, kktList}
-use Rattle.kkt_laws.specs.Laws.{All}
-use Rattle.kkt_laws.specs.Laws.All.{done, _&_}
 use Rattle.change_table.specs.Table.{isKind, fieldOf, Pair, cellsOf, Cell, cellAt, cellsAt, namedCells, sameCell, among, valuesAt}
 use Rattle.change_table.proofs.Agree.{agree, weaken}
 use Rattle.change_table.proofs.Cover.{In, isSet, Fair, Good, slots-good}
@@ -48,22 +49,13 @@ same-is x y e =
 same-self : (x : Cell) → sameCell x x ≡ true
 same-self x = rw (eq-eqb (x .0) (x .0) refl, eq-eqb (x .1) (x .1) refl)
 
-or-left : (a b : Bool) → a ≡ true → a || b ≡ true
-or-left true b e = refl
-or-left false true e = refl
-or-left false false e = e
-
-or-right : (a b : Bool) → b ≡ true → a || b ≡ true
-or-right true b e = refl
-or-right false b e = e
-
 among-at : (start : Block → ℕ) (p : Pair) (ps : List Pair) → In p ps → among (cellAt start p) (cellsAt start ps) ≡ true
 unfolding among
 among-at start p [] h = absurd h
 among-at start p (q ∷ ps) (inl e) =
-    or-left (sameCell (cellAt start p) (cellAt start q)) _ (subst (λ (q : Pair). sameCell (cellAt start p) (cellAt start q) ≡ true) e (same-self (cellAt start p)))
+    or-inl (sameCell (cellAt start p) (cellAt start q)) _ (subst (λ (q : Pair). sameCell (cellAt start p) (cellAt start q) ≡ true) e (same-self (cellAt start p)))
 among-at start p (q ∷ ps) (inr h) =
-    or-right (sameCell (cellAt start p) (cellAt start q)) _ (among-at start p ps h)
+    or-inr (sameCell (cellAt start p) (cellAt start q)) _ (among-at start p ps h)
 
 -- ---- a cell's values, for any slots and any two sets of readings
 

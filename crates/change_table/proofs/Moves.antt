@@ -1,5 +1,5 @@
 -- Each kind's change moves every cell that it names: one network, and one change of each kind, by computation.
--- Main results: `every-named-cell-moves`, and `moved`, which says the same of each kind by itself. Assumes nothing.
+-- Main results: `kinds-occur`, `network-accepted`, `every-named-cell-moves`, and `moved`, which says the same of each kind by itself. Assumes nothing.
 use mathlib.Core.Path.{_≡_, refl, sym, ap, subst, _∙_}
 use mathlib.Core.Bool.{Bool, true, false, not, _&&_}
 use mathlib.Core.Logic.{⊎-elim}
@@ -11,8 +11,8 @@ use lib.Dec.{eqb, ltb, leb, leb→le, T}
 use borrow.Author.Tests.{eqb-true, eq-eqb}
 use lib.ListN.{length, set, getD}
 use lib.Ieee.Fits.{and-l, and-r}
-use lib.Ieee.{Float, binary64, ofBits, toBits, add, sub, mul, div, neg, lt, le, eq}
-use Rattle.float64.specs.Values.{tolerance, whole, maxZero, finite, magnitude, within, inRange, rawLimit, sheetLimit, baseLow, baseHigh}
+use lib.Ieee.{Float, binary64, ofInt, ofBits, toBits, add, sub, mul, div, neg, lt, le, eq}
+use Rattle.float64.specs.Values.{nought, one, tolerance, whole, maxZero, finite, magnitude, within, inRange, rawLimit, sheetLimit, baseLow, baseHigh}
 use Rattle.sequence.specs.Lists.{when, each, before, some, every}
 use Rattle.sequence.proofs.Lists.{and-left, and-right, every-at}
 use Rattle.sequence.specs.Answers.{firstOf}
@@ -20,6 +20,7 @@ use Rattle.sequence.specs.Sheets.{Triplet, emit}
 use Rattle.network.specs.declared.Counts.{Counts}
 use Rattle.network.specs.Layout.{countsOf, size, place, fieldStart, wire, partStart, reading, segmentStart, termStart}
 use Rattle.network.specs.Numbers.{Network, networkNumber, sizesHold, few, lengthsHold, sumsHold, wiringHolds, partHolds, termsHold, flowTermsHold, generationTermsHold, readingsHold, fieldHolds, inRank, allWithin}
+use Rattle.solution.specs.NetworkB.{wiringB, readingsB, sheetB}
 use Rattle.solution.specs.Sheet.{pieces, pieceRank, sheetLength, solved, entryStart}
 use Rattle.kkt_index.specs.Index.{blockStart, linearStart}
 use Rattle.kkt.specs.Slots.{slots, columns, branchParts, referenceSlot}
@@ -31,33 +32,18 @@ use Rattle.change_table.specs.Table.{Cell, sameCell, isKind, fieldOf, na
 -- ---- the network: 01's network B with shedding on and bus 1's demand 0, whose angle limits are nearer than the tolerance
 
 abbrev pub wiring : List ℕ
-wiring = 2 ∷ 1 ∷ 1 ∷ 1 ∷ 0 ∷ 0 ∷ 0 ∷ 1 ∷ 1 ∷ 0 ∷ 1 ∷ 0 ∷ 0 ∷ 0 ∷ 1 ∷ 1 ∷ 1 ∷ []
+wiring = set wiringB 7 1
 
 abbrev pub counts : Counts
 counts = countsOf wiring
 
-abbrev o : Float
-o = ofBits binary64 0
-
--- base_mva; b, sw, shift, flow_offset, fmax, angmin, angmax; gmin, gmax, cq, cl, cc; then two words each
+-- angmin, angmax, and bus 1's demand
 abbrev pub readings : List Float
-readings =
-    ofBits binary64 0x4059_0000_0000_0000
-    ∷ ofBits binary64 0xc010_0000_0000_0000 ∷ ofBits binary64 0x3ff0_0000_0000_0000 ∷ o ∷ o ∷ ofBits binary64 0x4010_0000_0000_0000
-    ∷ ofBits binary64 0x3fcf_fffc_0000_0000 ∷ ofBits binary64 0x3fd0_0002_0000_0000
-    ∷ o ∷ ofBits binary64 0x4000_0000_0000_0000 ∷ ofBits binary64 0x3ff0_0000_0000_0000 ∷ o ∷ o
-    ∷ ofBits binary64 0x4008_0000_0000_0000 ∷ ofBits binary64 0x4008_0000_0000_0000 ∷ o ∷ o ∷ o ∷ o ∷ o ∷ o
-    ∷ []
+readings = set (set (set readingsB 6 (ofBits binary64 0x3fcf_fffc_0000_0000)) 7 (ofBits binary64 0x3fd0_0002_0000_0000)) 16 nought
 
--- B's but for psh and mu_ub of bus 1 and both gammas, each 1: va, pg, f, psh, nu_bal; lam_ub, lam_lb, rho_ub, rho_lb; mu_ub, mu_lb; gamma_ub, gamma_lb; objective
+-- psh and mu_ub of bus 1 and both gammas, each 1
 abbrev pub sheet : List Float
-sheet =
-    o ∷ ofBits binary64 0xbfd0_0000_0000_0000 ∷ ofBits binary64 0x3ff0_0000_0000_0000 ∷ ofBits binary64 0x3ff0_0000_0000_0000
-    ∷ o ∷ ofBits binary64 0x3ff0_0000_0000_0000 ∷ ofBits binary64 0x4000_0000_0000_0000 ∷ ofBits binary64 0x4000_0000_0000_0000
-    ∷ o ∷ o ∷ o ∷ o
-    ∷ o ∷ ofBits binary64 0x3ff0_0000_0000_0000 ∷ ofBits binary64 0x3ff0_0000_0000_0000 ∷ ofBits binary64 0x3ff0_0000_0000_0000
-    ∷ ofBits binary64 0x3ff0_0000_0000_0000 ∷ ofBits binary64 0x3ff0_0000_0000_0000 ∷ ofBits binary64 0x3ff0_0000_0000_0000
-    ∷ []
+sheet = set (set (set (set sheetB 5 one) 13 one) 16 one) 17 one
 
 abbrev pub listOf : List Float → List Triplet
 listOf r = kktList firstPlace counts wiring r [] [] sheet
@@ -120,11 +106,11 @@ abbrev pub allowed : Case → Bool
 allowed q = isKind (q .kind) && (ltb (q .index) (size counts (fieldOf (q .kind))) && within rawLimit (q .value))
 
 pub network-accepted : (networkNumber network ≡ 0) × (length sheet ≡ sheetLength counts (pieces counts wiring)) × (allWithin sheetLimit sheet ≡ true)
-unfolding networkNumber sizesHold few lengthsHold sumsHold wiringHolds partHolds termsHold flowTermsHold generationTermsHold readingsHold fieldHolds inRank allWithin every before segmentStart termStart pieceRank wire partStart reading place fieldStart within inRange finite magnitude rawLimit sheetLimit baseLow baseHigh whole ofBits div lt le eq firstOf
+unfolding networkNumber sizesHold few lengthsHold sumsHold wiringHolds partHolds termsHold flowTermsHold generationTermsHold readingsHold fieldHolds inRank allWithin every before segmentStart termStart pieceRank wire partStart reading place fieldStart within inRange finite magnitude rawLimit sheetLimit baseLow baseHigh whole ofInt ofBits neg div lt le eq firstOf
 network-accepted = (refl, refl, refl)
 
 pub every-named-cell-moves : allMove cases ≡ true
-unfolding allMove cellsMove sameWords valuesAt namedCells kktList emitted slots columns each when before some branchParts referenceSlot blockStart linearStart pieceRank solved entryStart reading place fieldStart wire partStart segmentStart emit tolerance whole maxZero ofBits toBits add sub mul div neg lt le eq
+unfolding allMove cellsMove sameWords valuesAt namedCells kktList emitted slots columns each when before some branchParts referenceSlot blockStart linearStart pieceRank solved entryStart reading place fieldStart wire partStart segmentStart emit tolerance whole maxZero ofInt ofBits toBits add sub mul div neg lt le eq
 every-named-cell-moves = refl
 
 -- ---- the same in words: no values in a named cell are those of before

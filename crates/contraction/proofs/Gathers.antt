@@ -1,13 +1,11 @@
 -- A parameter column's entries, gathered word by word.
 -- Main results: `none`, `skip` (a word that is zero), `skips` (so many of them), `more` (a word that is not). Assumes nothing.
-use mathlib.Core.Path.{_≡_, refl, sym, _∙_, subst}
+use mathlib.Core.Path.{_≡_, refl, sym, _∙_}
 use mathlib.Core.Bool.{Bool, true, false, not}
 use mathlib.Core.List.{List}
 use Prim.Native.Nat.{ℕ, zero, suc, _+_, _<_}
 use native.Mathlib.Nat.{not-suc-le-zero, zero-add, add-zero}
-use native.Mathlib.Numerals.{add-one}
 use native.Mathlib.Omega.{arith}
-use lib.Dec.{T}
 use lib.ListN.{length, getD, set, length-set}
 use lib.Seq.{getD-set-same, getD-set-other}
 use lib.Ieee.{Float, nan, binary64, add, mul, ne}
@@ -16,10 +14,6 @@ use Rattle.sequence.specs.Lists.{every, turns}
 use Rattle.sequence.proofs.Lists.{and-left, and-right, turns-more, turns-same, stored-at}
 use Rattle.model.specs.Quantities.{termSum}
 use Rattle.contraction.specs.Contraction.{gathered, Gathers}
-
--- what an answer that is not `whole` says
-pub never : {A : Type 0} → false ≡ true → A
-never e = absurd (subst T (sym e) tt)
 
 pub none : (rows : List ℕ) (values parameter : List Float) → Gathers rows values 0 0 parameter
 unfolding termSum gathered turns

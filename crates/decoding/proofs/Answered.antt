@@ -12,7 +12,7 @@ use lib.Ieee.{Float}
 use borrow.Author.Tests.{lt-ltb, le-ltb, ltb-false, eqb-true, not-true}
 use Rattle.sequence.specs.Lists.{front, made}
 use Rattle.sequence.specs.Answers.{Test, test, firstOf, marked, short, Filled, filled, fills}
-use Rattle.sequence.proofs.Lists.{and-left, and-right, failed, held as kept, made-length}
+use Rattle.sequence.proofs.Lists.{and-left, and-right, failed, held as kept, made-length, never}
 use Rattle.sequence.proofs.Answers.{holding, first-stands, first-passes}
 use Rattle.words.specs.Words.{doubleAt, doublesOf, joined}
 use Rattle.sequence.proofs.Fronts.{take-front}
@@ -23,7 +23,7 @@ use Rattle.network.proofs.Tests.{number-size, sized-few, accepted}
 use Rattle.decoding.specs.declared.Lengths.{Lengths}
 use Rattle.decoding.specs.Exports.{Out, out, packed, whole, filledOut}
 use Rattle.decoding.specs.Decoding.{fits, Arrays, Read, Cells}
-use Rattle.decoding.proofs.Decoded.{never, contrary, fits-of, whole-of}
+use Rattle.decoding.proofs.Decoded.{contrary, fits-of, whole-of}
 
 -- ---- a result's bytes do not depend on the sheet that it is cut from
 

@@ -1,14 +1,13 @@
 -- The laws of decoding: which slices fit their arrays, and that a network with a slice that does not has number 1. Assumes nothing.
-use mathlib.Core.Path.{_≡_, refl, sym, _∙_, subst}
+use mathlib.Core.Path.{_≡_, refl, sym, _∙_}
 use mathlib.Core.Bool.{Bool, true, false, _&&_}
 use mathlib.Core.List.{List}
 use Prim.Native.Nat.{ℕ, _/_, _%_, _≤_, _<_}
 use native.Mathlib.Omega.{arith}
-use lib.Dec.{T}
 use lib.ListN.{length}
 use borrow.Author.Tests.{ne-eqb, eq-eqb, le-leb, lt-leb}
 use Rattle.sequence.specs.Lists.{front, made}
-use Rattle.sequence.proofs.Lists.{and-left, and-right, made-length}
+use Rattle.sequence.proofs.Lists.{and-left, and-right, made-length, never}
 use Rattle.words.specs.Words.{wordAt, doubleAt, wordsOf, doublesOf}
 use Rattle.sequence.proofs.Fronts.{take-made}
 use Rattle.network.specs.Numbers.{Network, sizesHold}
@@ -16,9 +15,6 @@ use Rattle.network.proofs.Tests.{sized-few, sized-wiring, sized-readings, sized
 use Rattle.decoding.specs.declared.Lengths.{Lengths}
 use Rattle.decoding.specs.Exports.{whole}
 use Rattle.decoding.specs.Decoding.{fits, Held, Arrays, cut, Read, Greatest}
-
-pub never : {A : Type 0} → false ≡ true → A
-never e = absurd (subst T (sym e) tt)
 
 pub contrary : (p q : Bool) → (p ≡ true → q ≡ true) → q ≡ false → p ≡ false
 contrary true q f e = never (sym e ∙ f refl)

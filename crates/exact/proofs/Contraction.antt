@@ -8,9 +8,10 @@ use Prim.Native.Nat.{ℕ, zero, suc, _<_}
 use native.Mathlib.Omega.{arith}
 use lib.Dec.{eqb}
 use lib.ListN.{length, getD}
+use Rattle.sequence.specs.Facts.{All}
+use Rattle.sequence.specs.Facts.All.{done, _&_}
 use Rattle.exact.specs.Ring.{sum, total, only}
-use Rattle.exact.specs.Contraction.{Triplet, Entry, All, InRange, Below, exchanged, applied, Solves, selected, forward, adjoint}
-use Rattle.exact.specs.Contraction.All.{done, _&_}
+use Rattle.exact.specs.Contraction.{Triplet, Entry, InRange, Below, exchanged, applied, Solves, selected, forward, adjoint}
 use Rattle.exact.proofs.Sums.{zero-add, zero-mul, mul-assoc, mul-comm, loop, loop-only, loop-skip, total-same, sum-same, sum-map, spread}
 
 pub exchanged-twice : {R : Type 0} (K : List (Triplet R)) → exchanged (exchanged K) ≡ K

@@ -14,8 +14,9 @@ use lib.IntN.{ℤ, pos, negsuc, sucℤ, predℤ, negℤ, _+ℤ_, _-ℤ_, _*ℤ_,
 use lib.IntN.{+ℤ-idl, +ℤ-idr, +ℤ-assoc, +ℤ-comm, +ℤ-invl, negℤ-+ℤ, negℤ-negℤ, negℤ-sucℤ, negℤ-predℤ}
 use lib.IntN.{*ℤ-one, *ℤ-comm, zero-*ℤ, *ℤ-zero, sucℤ-*ℤ, predℤ-*ℤ}
 use Rattle.sequence.specs.Lists.{turns}
-use Rattle.exact.specs.Contraction.{Triplet, Entry, triplet, entry, All, InRange, Below, exchanged, applied, Solves, selected, forward, adjoint}
-use Rattle.exact.specs.Contraction.All.{done, _&_}
+use Rattle.sequence.specs.Facts.{All}
+use Rattle.sequence.specs.Facts.All.{done, _&_}
+use Rattle.exact.specs.Contraction.{Triplet, Entry, triplet, entry, InRange, Below, exchanged, applied, Solves, selected, forward, adjoint}
 use Rattle.exact.proofs.Contraction.{contraction-is-adjoint}
 
 -- ---- the ring's laws that the library of integers leaves

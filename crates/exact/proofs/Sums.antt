@@ -12,9 +12,9 @@ use native.Mathlib.Decide.{ℕ-discrete}
 use lib.Dec.{eqb, eqb-refl, eqb→eq, not-T}
 use lib.Ieee.Bits.{is-true, is-false}
 use Rattle.sequence.specs.Lists.{turns}
+use Rattle.sequence.specs.Facts.{All}
+use Rattle.sequence.specs.Facts.All.{done, _&_}
 use Rattle.exact.specs.Ring.{sum, total, only}
-use Rattle.exact.specs.Contraction.{All}
-use Rattle.exact.specs.Contraction.All.{done, _&_}
 
 module _ {R : Type 0} (𝓡 : CommRing R) where
   open CommRing 𝓡 using (add as _+_, mul as _*_, zero as 𝟘)

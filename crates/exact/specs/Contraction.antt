@@ -3,7 +3,7 @@
 use Prim.Native.Nat.{ℕ, _<_}
 use mathlib.Core.Path.{_≡_}
 use mathlib.Core.Bool.{Bool, cond}
-use mathlib.Core.List.{List, [], _∷_, map, foldl}
+use mathlib.Core.List.{List, map, foldl}
 use mathlib.Mathlib.Algebra.Ring.Defs.{CommRing}
 use lib.Dec.{eqb}
 use Rattle.sequence.specs.Lists.{turns}
@@ -18,12 +18,6 @@ pub record Triplet (R : Type 0) : Type 0 where
 pub record Entry (R : Type 0) : Type 0 where
   pub row : ℕ
   pub weight : R
-
-infixr 60 _&_
--- a fact of every element of a list
-pub data All {A : Type 0} (P : A → Type 0) : List A → Type 0 where
-  done : All P []
-  _&_ : {x : A} {xs : List A} → P x → All P xs → All P (x ∷ xs)
 
 module _ {R : Type 0} where
   -- a triplet by its row, column and value

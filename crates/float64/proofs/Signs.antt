@@ -1,14 +1,14 @@
--- Laws of binary64 that are exact: changes of sign, and products by 1 and -1 of a value that fits.
+-- Laws of binary64 that are exact: changes of sign, and products by 1 and -1 of a value that fits. Assumes nothing.
 use mathlib.Core.Path.{_≡_, refl, sym, ap, _∙_, subst}
-use mathlib.Core.Bool.{Bool, true, false, not, cond, Bool·beq, _&&_}
+use mathlib.Core.Bool.{Bool, true, false, not, cond, _&&_}
 use Prim.Native.Nat.{ℕ, zero, suc, _+_, _-_, _*_, _/_, _%_, _^_, _≤_, _<_}
-use native.Mathlib.Nat.{mul-one, one-mul, mul-assoc, mul-comm, mul-right-comm, zero-mul, mul-pos, eq-of-mul-eq-mul-right, lt-of-mul-lt-mul-right, mul-lt-mul-of-pos-right, zero-lt-suc}
+use native.Mathlib.Nat.{mul-one, one-mul, mul-assoc, mul-comm, mul-right-comm, zero-mul, lt-of-mul-lt-mul-right, mul-lt-mul-of-pos-right}
 use native.Mathlib.Omega.{arith}
 use lib.IntN.{ℤ, pos, negsuc}
-use lib.Dec.{T, ltb, leb, eqb, ltb→lt, leb→le, eqb→eq}
-use lib.Pow.{pow-add, pow-pos, pow-mono, pow-lt}
-use lib.Ieee.{Float, nan, inf, fin, Format, binary64, prec, emax, low, up, down, size, odd, units, round, neg, add, sub, sum, mul, fits, unlike, toBits, ofBits}
-use lib.Ieee.Fits.{up-pos, down-pos, and-l, and-r, round-fits, mul-fits}
+use lib.Dec.{T, ltb, leb, eqb, ltb→lt, leb→le}
+use lib.Pow.{pow-add, pow-pos, pow-lt}
+use lib.Ieee.{Float, nan, inf, fin, Format, binary64, prec, emax, low, up, down, odd, units, round, neg, mul, fits, unlike, toBits, ofBits}
+use lib.Ieee.Fits.{down-pos, and-l, and-r, round-fits}
 use lib.Ieee.Bits.{ofBits-toBits}
 use lib.Ieee.Exact.{HasValue, round-exact}
 use lib.Ieee.Nearest.{div-same}
@@ -36,11 +36,11 @@ units-neg f s q k = go (ltb (q * 2 ^ k) (2 ^ (low f + suc (emax f))))
     go true = odd-neg (suc (prec f)) s q k (low f)
     go false = refl
 
-round-neg : (f : Format) (s : Bool) (a b : ℕ) → neg (round f s a b) ≡ round f (not s) a b
+pub round-neg : (f : Format) (s : Bool) (a b : ℕ) → neg (round f s a b) ≡ round f (not s) a b
 unfolding round
 round-neg f s a b = units-neg f s _ _
 
-unlike-left : (s t : Bool) → unlike (not s) t ≡ not (unlike s t)
+pub unlike-left : (s t : Bool) → unlike (not s) t ≡ not (unlike s t)
 unlike-left true true = refl
 unlike-left true false = refl
 unlike-left false true = refl

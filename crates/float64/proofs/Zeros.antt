@@ -1,16 +1,16 @@
 -- Sums with a zero: +0 plus a value that is no zero is the value; a finite value less itself is +0.
 -- Main results: `nought-add`, `sub-self`. Assumes nothing.
 use mathlib.Core.Path.{_≡_, refl, sym, ap, _∙_, subst}
-use mathlib.Core.Bool.{Bool, true, false, not, cond, Bool·beq, _&&_, _||_}
-use Prim.Native.Nat.{ℕ, zero, suc, _+_, _-_, _*_, _≤_, _<_}
+use mathlib.Core.Bool.{Bool, true, false, Bool·beq, _&&_, _||_}
+use Prim.Native.Nat.{ℕ, zero, suc, _+_, _-_, _*_, _<_}
 use native.Mathlib.Nat.{mul-pos}
 use native.Mathlib.Omega.{arith}
-use lib.IntN.{ℤ, pos, negsuc}
-use lib.Dec.{T, ltb, eqb}
+use lib.IntN.{ℤ}
+use lib.Dec.{T, eqb}
 use lib.Ieee.{Float, nan, inf, fin, binary64, up, down, neg, add, sub, sum, eq, fits, round, ofBits}
 use lib.Ieee.Fits.{up-pos, down-pos}
 use lib.Ieee.Scale.{round-same}
-use borrow.Author.Tests.{lt-ltb, le-ltb, eq-eqb, ne-eqb}
+use borrow.Author.Tests.{lt-ltb, le-ltb}
 use Rattle.float64.specs.Values.{nought, finite}
 use Rattle.float64.proofs.Signs.{round-back}
 
@@ -38,7 +38,7 @@ sub-self (fin false m e) h =
 same-round : (s : Bool) (n : ℕ) (d : ℤ) (a b : ℕ) → a ≡ n * up d → b ≡ down d → T (fits binary64 (fin s n d)) → round binary64 s a b ≡ fin s n d
 same-round s n d a b p q h = rw (p, q) (round-back binary64 s n d h)
 
-zero-level : (s : Bool) (a b : ℕ) → a ≡ 0 → b ≡ 0 → eqb a b && (Bool·beq s false || eqb a 0) ≡ true
+pub zero-level : (s : Bool) (a b : ℕ) → a ≡ 0 → b ≡ 0 → eqb a b && (Bool·beq s false || eqb a 0) ≡ true
 zero-level true a b p q = rw (p, q)
 zero-level false a b p q = rw (p, q)
 

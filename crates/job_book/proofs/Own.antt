@@ -1,6 +1,6 @@
 -- The tests of a change itself, by which of them holds first. Main results: `value-refused`, `kind-refused`, `index-refused`, `own-passed`. Assumes nothing.
-use mathlib.Core.Path.{_≡_, refl}
-use mathlib.Core.Bool.{Bool, true, false}
+use mathlib.Core.Path.{_≡_}
+use mathlib.Core.Bool.{true, false}
 use Prim.Native.Nat.{ℕ, suc, _<_, _≤_}
 use lib.Ieee.{Float}
 use native.Mathlib.Omega.{arith}

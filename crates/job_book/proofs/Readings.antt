@@ -15,7 +15,7 @@ use Rattle.float64.specs.Values.{within, inRange, rawLimit, baseLow, baseHigh}
 use Rattle.sequence.specs.Layout.{start}
 use Rattle.sequence.specs.Lists.{every}
 use Rattle.sequence.specs.Answers.{firstOf}
-use Rattle.sequence.proofs.Lists.{and-left, and-right, every-at, stored-at}
+use Rattle.sequence.proofs.Lists.{and-left, and-right, every-at, stored-at, every-of}
 use Rattle.network.specs.declared.Counts.{Counts}
 use Rattle.network.specs.declared.Field.the-variants.{BaseMva}
 use Rattle.network.specs.Layout.{rank, sizes, fieldStart, place, ReadingsLaid}
@@ -58,18 +58,13 @@ place-later c k i e = omega (arith, start-later c (rank (fieldOf k)) (kind-rank 
 
 -- ---- the readings with one of a kind set are still within their limits
 
-all-of : (test : ℕ → Bool) (n : ℕ) → ((i : ℕ) → i < n → test i ≡ true) → every test n ≡ true
-unfolding every
-all-of test zero h = refl
-all-of test (suc n) h = rw (all-of test n (λ i l. h i (omega arith)), h n (omega arith))
-
 module _ (r : List Float) (p : ℕ) (v : Float) (first : 1 ≤ p) (below : p < length r) (held : within rawLimit v ≡ true) where
   base-same : getD (set r p v) 0 nan ≡ getD r 0 nan
   base-same = getD-set-other r p 0 v nan (λ z. absurd (omega arith))
 
   rest-within : allWithin rawLimit (drop 1 r) ≡ true → allWithin rawLimit (drop 1 (set r p v)) ≡ true
   unfolding allWithin
-  rest-within e = all-of _ _ (λ i h. rw (getD-drop 1 (set r p v) i nan) (at i (omega (arith, length-drop 1 (set r p v), length-set r p v))))
+  rest-within e = every-of _ _ (λ i h. rw (getD-drop 1 (set r p v) i nan) (at i (omega (arith, length-drop 1 (set r p v), length-set r p v))))
     where
       at : (i : ℕ) → 1 + i < length r → within rawLimit (getD (set r p v) (1 + i) nan) ≡ true
       at i h =

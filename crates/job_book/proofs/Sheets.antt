@@ -10,7 +10,6 @@ use lib.Seq.{drop-append-seam}
 use lib.Ieee.{Float}
 use borrow.Author.Tests.{ltb-false}
 use Rattle.sequence.specs.Lists.{front}
-use Rattle.sequence.specs.Answers.{Test}
 use Rattle.sequence.specs.Sheets.{Triplet, rowsOf, colsOf, valuesOf, laid, lays, laysIf, room, shortList}
 use Rattle.sequence.proofs.Lists.{front-length}
 use Rattle.sequence.proofs.Fronts.{take-front}

@@ -1,7 +1,7 @@
 -- 01's job book: what a change call answers and leaves, and a list of calls, each on what the last one left.
 -- The reference rule and the tests after 7 are parameters. Main definitions: `step`, `lines`, `wordsAfter`, `runCall`. Assumes nothing.
 use Prim.Native.Nat.{ℕ, _+_, _*_, _/_, _%_}
-use mathlib.Core.Bool.{Bool, false, cond, not, _||_}
+use mathlib.Core.Bool.{false, cond, not, _||_}
 use mathlib.Core.List.{List, [], _∷_, _++_, map}
 use lib.ListN.{length, getD, set}
 use lib.Dec.{eqb, ltb}

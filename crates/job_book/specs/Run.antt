@@ -8,7 +8,7 @@ use lib.Dec.{T, eqb}
 use lib.Ieee.{Float, nan}
 use Rattle.sequence.specs.Lists.{made}
 use Rattle.sequence.specs.Answers.{Test}
-use Rattle.sequence.specs.Sheets.{Triplet, triplet, Laid, laid}
+use Rattle.sequence.specs.Sheets.{Triplet, triplet, laid}
 use Rattle.kkt.specs.Slots.{Rule}
 use Rattle.change_table.specs.Table.{Cell, namedCells, among, valuesAt}
 use Rattle.sens_dc.specs.Calls.{matrixCall}

@@ -1,7 +1,7 @@
 -- From slots to triplets: those whose value is not zero, their places made flat.
 -- Main definitions: `emitted`, `kktList`. Assumes nothing.
 use Prim.Native.Nat.{ℕ, _+_, _*_}
-use mathlib.Core.Bool.{Bool, true, false, not}
+use mathlib.Core.Bool.{not}
 use mathlib.Core.List.{List, [], _∷_, _++_}
 use lib.Ieee.{Float, eq}
 use Rattle.float64.specs.Values.{nought}
@@ -14,7 +14,7 @@ use Rattle.solution.specs.declared.Entry.{Entry}
 use Rattle.solution.specs.Sheet.{pieces, solved}
 use Rattle.kkt_index.specs.declared.Block.{Block}
 use Rattle.kkt_index.specs.Index.{linearRows, blockStart}
-use Rattle.snapping.specs.Expr.{Expr, eval}
+use Rattle.snapping.specs.Expr.{eval}
 use Rattle.kkt.specs.Slots.{Place, Slot, Rule, siteOf, slots}
 
 -- a value, kept where it is not zero

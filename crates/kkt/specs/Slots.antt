@@ -1,7 +1,7 @@
 -- The KKT matrix as slots in the Rust's order of emission: a row, a column and an expression each. Of the readings only the shapes of the linear rows shape this list.
 -- Rows and columns are places, a block and an index in it. Main definitions: `columns`, `slots`. Assumes nothing.
 use Prim.Native.Nat.{ℕ, zero, suc, _+_}
-use mathlib.Core.Bool.{Bool, true, false, cond, not, _&&_, _||_}
+use mathlib.Core.Bool.{Bool, true, false, not, _&&_}
 use mathlib.Core.List.{List, [], _∷_, _++_}
 use lib.ListN.{length, getD}
 use lib.Dec.{eqb}

@@ -1,8 +1,8 @@
 -- What the loops that put the matrix keep: which slices are lent, and short columns as three items.
 -- Main definitions: `Lent`, `triple`, `spanOf`. Assumes nothing.
-use Prim.Native.Nat.{ℕ, _+_, _*_, _/_, _%_, _≤_, _<_}
+use Prim.Native.Nat.{ℕ, _+_, _%_}
 use mathlib.Core.Path.{_≡_}
-use mathlib.Core.Bool.{Bool, true, false, cond, not, _&&_}
+use mathlib.Core.Bool.{Bool, true, false, cond}
 use mathlib.Core.List.{List, [], _∷_, _++_}
 use lib.ListN.{getD}
 use lib.Dec.{eqb}
@@ -15,14 +15,14 @@ use Rattle.network.specs.declared.Counts.{Counts}
 use Rattle.network.specs.declared.Field.{Field}
 use Rattle.network.specs.declared.Part.the-variants.{GenBus}
 use Rattle.network.specs.Layout.{reading, wire, ReadingsLaid}
-use Rattle.network.specs.Numbers.{Wired, Termed}
+use Rattle.network.specs.Numbers.{Wired}
 use Rattle.solution.specs.declared.Entry.{Entry}
 use Rattle.solution.specs.Sheet.{solved, pieces, SheetLaid}
 use Rattle.kkt_index.specs.declared.Block.{Block}
 use Rattle.kkt_index.specs.declared.Block.the-variants.{Va, Pg, Flow, Psh, Cost, LamLb, LamUb, GammaLb, GammaUb, RhoLb, RhoUb, MuLb, MuUb, Segments, Linear, NuBal, NuFlow, Eta}
 use Rattle.kkt_index.specs.declared.KktIdx.{KktIdx}
-use Rattle.kkt_index.specs.Index.{linearRows, Indexed, Narrow, startIn}
-use Rattle.snapping.specs.Expr.{Expr, eval, unit, lessUnit}
+use Rattle.kkt_index.specs.Index.{Narrow, startIn}
+use Rattle.snapping.specs.Expr.{Expr, eval, lessUnit}
 use Rattle.snapping.specs.Expr.Expr.{num, minus}
 use Rattle.snapping.specs.Snap.{upperSlack, lowerSlack, upperDual, lowerDual}
 use Rattle.kkt.specs.declared.Side.{Side}

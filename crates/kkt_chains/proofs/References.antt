@@ -1,17 +1,15 @@
 -- A bus's first place among the references emits its one entry, and no other place does.
 -- Main results: `first-reference`, `no-reference`. Assumes nothing.
 use mathlib.Core.Path.{_≡_, refl, _∙_}
-use mathlib.Core.Bool.{Bool, true, false, and-false, or-true}
+use mathlib.Core.Bool.{Bool, false, and-false}
 use mathlib.Core.List.{List, [], _∷_}
-use mathlib.Core.Logic.{⊎-elim}
 use Prim.Native.Nat.{ℕ, zero, suc, _+_, _≤_, _<_}
-use native.Mathlib.Nat.{eq-or-lt-of-le, not-suc-le-zero, le-of-suc-le-suc}
 use native.Mathlib.Omega.{arith}
 use lib.Dec.{eqb}
 use borrow.Author.Tests.{eq-eqb, ne-eqb}
 use Rattle.sequence.specs.Lists.{some, each, when}
 use Rattle.sequence.specs.Links.{First}
-use Rattle.sequence.proofs.Lists.{each-skip, each-more}
+use Rattle.sequence.proofs.Lists.{each-skip, each-more, some-holds}
 use Rattle.network.specs.declared.Counts.{Counts}
 use Rattle.network.specs.declared.Part.the-variants.{References}
 use Rattle.network.specs.Layout.{wire}
@@ -20,13 +18,7 @@ use Rattle.snapping.specs.Expr.{unit}
 use Rattle.kkt.specs.Slots.{slot, referenceSlot}
 use Rattle.kkt.specs.Slots.Rule.{firstPlace}
 
--- one of the tests passes, or none does
-some-hit : (test : ℕ → Bool) (i n : ℕ) → i < n → test i ≡ true → some test n ≡ true
-unfolding some
-some-hit test i zero h b = absurd (not-suc-le-zero h)
-some-hit test i (suc n) h b =
-    ⊎-elim (λ e. rw (← e, b, or-true)) (λ l. rw (some-hit test i n l b)) (eq-or-lt-of-le (le-of-suc-le-suc h))
-
+-- none of the tests passes
 some-none : (test : ℕ → Bool) (n : ℕ) → ((i : ℕ) → i < n → test i ≡ false) → some test n ≡ false
 unfolding some
 some-none test zero h = refl
@@ -43,7 +35,7 @@ module _ (c : Counts) (w : List ℕ) (j : ℕ) where
 
   later-place : (z x : ℕ) → key z ≡ j → z < x → referenceSlot firstPlace c w j x ≡ []
   unfolding referenceSlot when
-  later-place z x e h = rw (some-hit (λ i. eqb (key i) j) z x h (eq-eqb (key z) j e), and-false)
+  later-place z x e h = rw (some-holds (λ i. eqb (key i) j) z x h (eq-eqb (key z) j e), and-false)
 
   first-place : (z : ℕ) → key z ≡ j → ((x : ℕ) → x < z → key x ≡ j → ⊥) → referenceSlot firstPlace c w j z ≡ slot (Eta, z) (Va, j) unit ∷ []
   unfolding referenceSlot when

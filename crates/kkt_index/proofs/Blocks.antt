@@ -7,7 +7,7 @@ use lib.Dec.{T, eqb, eqb→eq}
 use lib.ListN.{getD}
 use Rattle.sequence.specs.Lists.{every}
 use Rattle.sequence.proofs.Lists.{every-at}
-use Rattle.sequence.specs.Layout.{total, start}
+use Rattle.sequence.specs.Layout.{start}
 use Rattle.sequence.proofs.Blocks.{one-place, in-block}
 use Rattle.network.specs.declared.Counts.{Counts}
 use Rattle.model.specs.declared.RowLimits.{RowLimits}
@@ -43,7 +43,7 @@ block-size c p l NuBal = refl
 block-size c p l NuFlow = refl
 block-size c p l Eta = refl
 
-block-of-rank : (b : Block) → getD blocks (rank b) Va ≡ b
+pub block-of-rank : (b : Block) → getD blocks (rank b) Va ≡ b
 block-of-rank Va = refl
 block-of-rank Pg = refl
 block-of-rank Flow = refl
@@ -62,6 +62,26 @@ block-of-rank Linear = refl
 block-of-rank NuBal = refl
 block-of-rank NuFlow = refl
 block-of-rank Eta = refl
+
+pub rank-below : (b : Block) → rank b < 18
+rank-below Va = omega arith
+rank-below Pg = omega arith
+rank-below Flow = omega arith
+rank-below Psh = omega arith
+rank-below Cost = omega arith
+rank-below LamLb = omega arith
+rank-below LamUb = omega arith
+rank-below GammaLb = omega arith
+rank-below GammaUb = omega arith
+rank-below RhoLb = omega arith
+rank-below RhoUb = omega arith
+rank-below MuLb = omega arith
+rank-below MuUb = omega arith
+rank-below Segments = omega arith
+rank-below Linear = omega arith
+rank-below NuBal = omega arith
+rank-below NuFlow = omega arith
+rank-below Eta = omega arith
 
 -- two indexes that are one index are of one block, at one place
 pub blocks-apart : (c : Counts) (p l : ℕ) (a b : Block) (i j : ℕ) → i < size c p l a → j < size c p l b → blockStart c p l a + i ≡ blockStart c p l b + j → (a ≡ b) × (i ≡ j)
@@ -97,11 +117,3 @@ block-of c p l i h =
       below = omega (arith, q .below, block-size c p l b, ap (λ (k : ℕ). getD (sizes c p l) k 0) e);
       is = omega (arith, q .place, ap (start (sizes c p l)) e);
     }
-
--- "B1: dim 20; nu_bal starts at 16, eta at 19": network B has 2 buses, a branch, a generator and a reference
-abbrev pub bench : Counts
-bench = record { buses = 2; branches = 1; generators = 1; references = 1; segments = 0; rows = 0; terms = 0 }
-
-pub bench-1 : (dim bench 0 0 ≡ 20) × (blockStart bench 0 0 NuBal ≡ 16) × (blockStart bench 0 0 Eta ≡ 19)
-unfolding dim blockStart
-bench-1 = (refl, refl, refl)

@@ -9,6 +9,9 @@ use lib.Ieee.{Float}
 use borrow.Author.Tests.{ne-eqb}
 use Rattle.sequence.proofs.Lists.{before-within}
 use Rattle.sequence.proofs.Blocks.{inside}
+use Rattle.sequence.specs.Facts.{All}
+use Rattle.sequence.specs.Facts.All.{done, _&_}
+use Rattle.sequence.proofs.Facts.{all-append, all-each, all-when, all-map}
 use Rattle.network.specs.declared.Counts.{Counts}
 use Rattle.network.specs.Layout.{reading, segmentsAt, segmentStart}
 use Rattle.network.specs.Numbers.{Wired, Termed}
@@ -23,9 +26,8 @@ use Rattle.kkt.specs.declared.Side.{Side}
 use Rattle.kkt.specs.declared.Side.the-variants.{Above, Below, Level}
 use Rattle.kkt.specs.Slots.{Place, Slot, Site, Rule, siteOf, startOf, endSlots, referenceSlot, sideSlots, diagonal, rowSlots, columns, turnsOf, emission, emissionAt, slots}
 use Rattle.kkt.specs.Matrix.{kktList}
-use Rattle.kkt_laws.specs.Laws.{All, InRange}
-use Rattle.kkt_laws.specs.Laws.All.{done, _&_}
-use Rattle.kkt_laws.proofs.Every.{all-append, all-each, all-when, emitted-all}
+use Rattle.kkt_laws.specs.Laws.{InRange}
+use Rattle.kkt_laws.proofs.Every.{emitted-all}
 
 -- a place of a block lies in the matrix
 place-in : (c : Counts) (p l : ℕ) (b : Block) (i : ℕ) → i < getD (sizes c p l) (rank b) 0 → blockStart c p l b + i < dim c p l
@@ -115,11 +117,6 @@ module _ (s : Site) where
     slots-in = all-each (length emission) (λ b m. all-each _ (block-in (emissionAt b)))
 
 -- ---- the list
-
-module _ {A : Type 0} {P Q : A → Type 0} (f : (x : A) → P x → Q x) where
-  all-map : {l : List A} → All P l → All Q l
-  all-map done = done
-  all-map (p & ps) = f _ p & all-map ps
 
 pub list-in : (rule : Rule) (c : Counts) (w : List ℕ) (r : List Float) (ti : List ℕ) (tc s : List Float) → Wired c w → Termed c w ti tc
     → All (InRange (dim c (pieces c w) (linearRows c w r))) (kktList rule c w r ti tc s)

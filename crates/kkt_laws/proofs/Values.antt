@@ -9,6 +9,8 @@ use lib.ListN.{length, length-append}
 use lib.Dec.{eqb}
 use lib.Ieee.{Float}
 use Rattle.sequence.specs.Lists.{some, each, when}
+use Rattle.sequence.specs.Facts.{All}
+use Rattle.sequence.specs.Facts.All.{done, _&_}
 use Rattle.network.specs.declared.Counts.{Counts}
 use Rattle.network.specs.declared.Part.the-variants.{References}
 use Rattle.network.specs.Layout.{wire, reading}
@@ -17,8 +19,7 @@ use Rattle.kkt_index.specs.Index.{linearRows, blockStart}
 use Rattle.kkt.specs.Slots.{Slot, Rule, referenceSlot, siteOf, slots}
 use Rattle.kkt.specs.Slots.Rule.{firstPlace}
 use Rattle.kkt.specs.Matrix.{kktList}
-use Rattle.kkt_laws.specs.Laws.{All, NotZero}
-use Rattle.kkt_laws.specs.Laws.All.{done, _&_}
+use Rattle.kkt_laws.specs.Laws.{NotZero}
 use Rattle.kkt_laws.proofs.Sums.{bit, bit-le}
 use Rattle.kkt_laws.proofs.Every.{emitted-all}
 

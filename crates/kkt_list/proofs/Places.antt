@@ -2,11 +2,11 @@
 -- Main results: `block-of-work`, `by-starts`. Assumes nothing.
 use mathlib.Core.Path.{_≡_, refl, sym, ap, subst, _∙_}
 use mathlib.Core.Bool.{Bool, true, false}
-use mathlib.Core.List.{List, [], _∷_, _++_}
-use Prim.Native.Nat.{ℕ, _+_}
+use mathlib.Core.List.{List, [], _∷_}
+use Prim.Native.Nat.{ℕ}
 use lib.Dec.{T}
 use lib.Ieee.{Float}
-use Rattle.sequence.specs.Sheets.{Triplet, emit, Sheets, Puts}
+use Rattle.sequence.specs.Sheets.{Triplet, Sheets, Puts}
 use Rattle.network.specs.declared.Counts.{Counts}
 use Rattle.network.specs.declared.Field.{Field}
 use Rattle.network.specs.Layout.{reading}
@@ -20,7 +20,7 @@ use Rattle.kkt_index.proofs.Starts.{starts}
 use Rattle.kkt.specs.declared.Work.{Work}
 use Rattle.kkt.specs.declared.Work.the-variants.{Angles, Dispatch, Short, Epigraph, SegmentDuals, Balances, Rows}
 use Rattle.kkt.specs.Slots.{Slot}
-use Rattle.kkt.specs.Matrix.{itemOf, emitted}
+use Rattle.kkt.specs.Matrix.{emitted}
 use Rattle.kkt.specs.Walks.{workOf}
 
 -- ---- a loop that is not the short columns' is for one block

@@ -5,7 +5,7 @@ use Prim.Native.Nat.{ℕ, _+_}
 use lib.Ieee.{Float, binary64, sub, div}
 use Rattle.sequence.proofs.Lists.{before-none, before-more}
 use Rattle.network.specs.declared.Counts.{Counts}
-use Rattle.network.specs.declared.Field.the-variants.{BaseMva, UpperMw, LowerMw}
+use Rattle.network.specs.declared.Field.the-variants.{BaseMva}
 use Rattle.network.specs.Layout.{reading}
 use Rattle.model.specs.declared.RowLimits.{RowLimits}
 use Rattle.model.specs.declared.RowLimits.the-variants.{Upper, Lower, Both}

@@ -3,13 +3,12 @@
 use mathlib.Core.Path.{_≡_, sym, subst}
 use mathlib.Core.Bool.{true, false}
 use mathlib.Core.List.{List, [], append-nil}
-use Prim.Native.Nat.{ℕ, _+_, _<_}
-use native.Mathlib.Omega.{arith}
+use Prim.Native.Nat.{ℕ, _+_}
 use lib.Dec.{T}
 use lib.Ieee.{Float}
 use Rattle.sequence.specs.declared.Item.{Item}
 use Rattle.sequence.specs.Lists.{each}
-use Rattle.sequence.specs.Sheets.{Triplet, emit, Sheets, Puts, Room}
+use Rattle.sequence.specs.Sheets.{emit, Sheets, Puts}
 use Rattle.sequence.proofs.Sheets.{none}
 use Rattle.network.specs.declared.Counts.{Counts}
 use Rattle.network.specs.declared.Field.{Field}

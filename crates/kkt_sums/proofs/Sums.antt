@@ -1,19 +1,19 @@
 -- The laws of the susceptance sums as entries: the expression is the sum, a sum is the same from either bus, and one that no branch touches is +0.
 -- Main results: `balance-is`, `symmetric`, `untouched`, `unmarked`, `span-none`, `block-more`. Assumes nothing.
-use mathlib.Core.Path.{_≡_, refl, sym, ap, _∙_, subst}
+use mathlib.Core.Path.{_≡_, refl, sym, ap, _∙_}
 use mathlib.Core.Bool.{Bool, true, false, cond, not, _&&_, _||_, and-false}
-use mathlib.Core.List.{List, [], append-nil}
+use mathlib.Core.List.{List, []}
 use Prim.Native.Nat.{ℕ, zero, suc, _+_, _-_, _*_, _/_, _≤_, _<_, min}
 use native.Mathlib.Nat.{eq-or-lt-of-le, not-suc-le-zero, le-of-suc-le-suc, zero-add}
 use native.Mathlib.Omega.{arith}
 use mathlib.Core.Logic.{⊎-elim}
 use lib.ListN.{getD}
-use lib.Dec.{eqb, T}
+use lib.Dec.{eqb}
 use lib.Ieee.{Float, nan, neg, eq, ofBits}
 use Rattle.float64.specs.Values.{nought, addAt, subAt}
 use Rattle.sequence.specs.Lists.{each, when, turns, some}
 use Rattle.sequence.specs.Sheets.{emit, Sheets, Puts}
-use Rattle.sequence.proofs.Lists.{each-same, each-skip, each-add, turns-same, turns-skip}
+use Rattle.sequence.proofs.Lists.{each-same, each-skip, each-add, turns-same, turns-skip, or-none}
 use Rattle.sequence.proofs.Sheets.{then}
 use Rattle.network.specs.declared.Counts.{Counts}
 use Rattle.network.specs.declared.Part.the-variants.{BrFrom, BrTo}
@@ -21,13 +21,9 @@ use Rattle.network.specs.Layout.{wire, reading}
 use Rattle.solution.specs.declared.Entry.{Entry}
 use Rattle.susceptance.specs.Susceptance.{weight, isCell, cellTurn, susceptance, touches, touched}
 use Rattle.susceptance.specs.Incidence.{RowHeld}
-use Rattle.kkt_index.specs.declared.Block.{Block}
-use Rattle.kkt_index.specs.declared.Block.the-variants.{Va, NuBal}
 use Rattle.snapping.specs.Expr.{Expr, eval}
 use Rattle.kkt.specs.Slots.{gatherAt, branchParts, balance}
-use Rattle.kkt.specs.Matrix.{emitted}
-use Rattle.kkt.specs.Walks.{sumItem, spanOf, balanceSlots}
-use Rattle.kkt.proofs.Emitted.{emitted-each}
+use Rattle.kkt.specs.Walks.{sumItem, spanOf}
 
 -- ---- the expression of a sum is the sum
 
@@ -110,26 +106,18 @@ module _ (c : Counts) (w : List ℕ) (r : List Float) where
 
 -- ---- a sum that no branch touches is +0
 
-or-left : (a b : Bool) → a || b ≡ false → a ≡ false
-or-left true b h = h
-or-left false b h = refl
-
-or-right : (a b : Bool) → a || b ≡ false → b ≡ false
-or-right true b h = absurd (subst T h tt)
-or-right false b h = h
-
 some-not : (test : ℕ → Bool) (n : ℕ) → some test n ≡ false → (i : ℕ) → i < n → test i ≡ false
 unfolding some
 some-not test zero h i l = absurd (not-suc-le-zero l)
 some-not test (suc n) h i l =
-    ⊎-elim (λ e. rw e (or-right (some test n) (test n) h)) (λ k. some-not test n (or-left (some test n) (test n) h) i k) (eq-or-lt-of-le (le-of-suc-le-suc l))
+    ⊎-elim (λ e. rw e (or-none (some test n) (test n) h .1)) (λ k. some-not test n (or-none (some test n) (test n) h .0) i k) (eq-or-lt-of-le (le-of-suc-le-suc l))
 
 turn-none : (i j p q : ℕ) (x a : Float) → touches i j p q x ≡ false → cellTurn i j p q x a ≡ a
 unfolding touches cellTurn
 turn-none i j p q x a h = go (eq x nought) (eqb i p) (eqb i q) (eqb j p) (eqb j q) h
   where
     none : (b d jp jq : Bool) → jp || jq ≡ false → subAt (d && jp) x (subAt (b && jq) x (addAt (d && jq) x (addAt (b && jp) x a))) ≡ a
-    none b d jp jq h = rw (or-left jp jq h, or-right jp jq h, and-false b, and-false d)
+    none b d jp jq h = rw (or-none jp jq h .0, or-none jp jq h .1, and-false b, and-false d)
 
     go : (z b d jp jq : Bool) → not z && ((b || d) && (jp || jq)) ≡ false → cond z a (subAt (d && jp) x (subAt (b && jq) x (addAt (d && jq) x (addAt (b && jp) x a)))) ≡ a
     go true b d jp jq h = refl

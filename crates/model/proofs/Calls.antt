@@ -2,18 +2,19 @@
 use mathlib.Core.Path.{_≡_, refl, sym, ap, _∙_}
 use mathlib.Core.Bool.{Bool, true, false, not, _&&_, and-false}
 use mathlib.Core.List.{List, [], _∷_, _++_}
-use Prim.Native.Nat.{ℕ, suc, _≤_, _<_}
+use Prim.Native.Nat.{ℕ, _≤_, _<_}
 use native.Mathlib.Omega.{arith}
-use lib.ListN.{length, set, drop}
+use lib.ListN.{length, set}
 use lib.Dec.{T, eqb}
 use lib.Ieee.{Float}
 use borrow.Author.Tests.{le-leb, lt-leb, lt-ltb, le-ltb, eqb-true, ne-eqb}
 use Rattle.sequence.specs.Lists.{front, made}
-use Rattle.sequence.specs.Answers.{Test, test, firstOf, marked, filled, fills, short}
+use Rattle.sequence.specs.Answers.{Test, test, firstOf, marked, filled}
 use Rattle.sequence.specs.Sheets.{Triplet, laid, lays, laysIf, shortList}
 use Rattle.sequence.proofs.Lists.{and-left, and-right, made-length}
 use Rattle.sequence.proofs.Answers.{no-test, passed, holding, first-stands, first-passes, fills-refused, fills-done}
 use Rattle.sequence.proofs.Sheets.{lays-refused}
+use Rattle.sequence.proofs.Fronts.{one-front}
 use Rattle.network.specs.Numbers.{Network, networkTests, sizesHold}
 use Rattle.model.specs.Calls.{counted, elementTests, elementNumber, elementCall, sheetNumber, busCall, rowKind, rowKindNumber, rowKindCall, listNumber}
 use Rattle.model.specs.Rows.{rowLimits, kindOf}
@@ -43,11 +44,6 @@ own-sizes N true values e z = refl
 own-sizes N false values e z =
     let h : not (sizesHold N && false) ≡ true = rw and-false in
     absurd (omega (arith, e ∙ holding 1 (not (sizesHold N && false)) _ h))
-
-one-front : (x : Float) (sheet : List Float) → 1 ≤ length sheet → set sheet 0 x ≡ front (x ∷ []) sheet
-unfolding front
-one-front x [] h = absurd (omega arith)
-one-front x (y ∷ ys) h = refl
 
 -- a call for one number of an element
 module _ (N : Network) (sizes values : Bool) (i count : ℕ) (x : Float) (sheet : List Float) {k : ℕ} (e : k ≡ firstOf (networkTests N sizes values)) where

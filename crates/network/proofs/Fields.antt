@@ -2,7 +2,7 @@
 -- Main result: `fields-flat`. Assumes nothing.
 use mathlib.Core.Path.{_≡_, refl, sym, ap, subst, _∙_}
 use mathlib.Core.Bool.{Bool, true, false, _&&_}
-use mathlib.Core.List.{List, [], _∷_, map}
+use mathlib.Core.List.{List}
 use Prim.Native.Nat.{ℕ, zero, suc, _+_, _≤_, _<_}
 use native.Mathlib.Omega.{arith}
 use lib.Dec.{T, eqb, eqb→eq}
@@ -13,10 +13,9 @@ use borrow.Author.Tests.{ne-eqb}
 use Rattle.float64.specs.Values.{within, inRange, rawLimit, baseLow, baseHigh}
 use Rattle.sequence.specs.Lists.{every}
 use Rattle.sequence.specs.Layout.{total, start}
-use Rattle.sequence.proofs.Lists.{and-left, and-right, every-at}
+use Rattle.sequence.proofs.Lists.{and-left, and-right, every-at, every-of, map-at}
 use Rattle.sequence.proofs.Blocks.{inside, in-block}
 use Rattle.network.specs.declared.Counts.{Counts}
-use Rattle.network.specs.declared.Field.{Field}
 use Rattle.network.specs.declared.Field.the-variants.{BaseMva}
 use Rattle.network.specs.Layout.{fields, rank, size, sizes, fieldStart, place, reading, ReadingsLaid}
 use Rattle.network.specs.Numbers.{inRank, fieldAt, fieldHolds, allWithin}
@@ -29,16 +28,6 @@ same false false f g = refl
 
 both : (a b : Bool) → a ≡ true → b ≡ true → a && b ≡ true
 both a b p q = rw (p, q)
-
-all-of : (test : ℕ → Bool) (n : ℕ) → ((i : ℕ) → i < n → test i ≡ true) → every test n ≡ true
-unfolding every
-all-of test zero h = refl
-all-of test (suc n) h = both _ _ (all-of test n (λ i l. h i (omega arith))) (h n (omega arith))
-
-map-at : {A : Type 0} (f : A → ℕ) (l : List A) (k : ℕ) (d : A) → k < length l → getD (map f l) k 0 ≡ f (getD l k d)
-map-at f [] k d h = absurd (omega arith)
-map-at f (x ∷ l) zero d h = refl
-map-at f (x ∷ l) (suc k) d h = map-at f l k d (omega arith)
 
 ranked : every (λ k. eqb (rank (fieldAt k)) k) 21 ≡ true
 unfolding every
@@ -78,7 +67,7 @@ module _ (c : Counts) (r : List Float) where
 
     rest-holds : every (fieldHolds c r) 21 ≡ true → allWithin rawLimit (drop 1 r) ≡ true
     unfolding allWithin
-    rest-holds e = all-of _ _ (λ i h. rw (getD-drop 1 r i nan) (at i (omega (arith, length-drop 1 r, laid .long))))
+    rest-holds e = every-of _ _ (λ i h. rw (getD-drop 1 r i nan) (at i (omega (arith, length-drop 1 r, laid .long))))
       where
         go : (i k j : ℕ) → k < 21 → j < getD (sizes c) k 0 → 1 + i ≡ start (sizes c) k + j → within rawLimit (getD r (1 + i) nan) ≡ true
         go i zero j h l q = absurd (omega arith)
@@ -110,5 +99,5 @@ module _ (c : Counts) (r : List Float) where
         let rest : Bool = allWithin rawLimit (drop 1 r) in
         same (base && rest) (every (fieldHolds c r) 21)
         (λ e. let b = and-left base rest e in let d = and-right base rest e in
-        all-of (fieldHolds c r) 21 (λ k h. all-of _ _ (λ j l. ap (inRank k) (reading-at k j h) ∙ each-holds b d k j h (omega (arith, size-at k h)))))
+        every-of (fieldHolds c r) 21 (λ k h. every-of _ _ (λ j l. ap (inRank k) (reading-at k j h) ∙ each-holds b d k j h (omega (arith, size-at k h)))))
         (λ e. both base rest (base-holds e) (rest-holds e))

@@ -28,21 +28,24 @@ column-size c a Flow = refl
 column-size c a Shed = refl
 column-size c a Cost = refl
 
-column-of-rank : (b : OpfColumn) → getD columns (columnRank b) Va ≡ b
+pub column-of-rank : (b : OpfColumn) → getD columns (columnRank b) Va ≡ b
 column-of-rank Va = refl
 column-of-rank Pg = refl
 column-of-rank Flow = refl
 column-of-rank Shed = refl
 column-of-rank Cost = refl
 
+pub column-rank-below : (b : OpfColumn) → columnRank b < 5
+column-rank-below Va = omega arith
+column-rank-below Pg = omega arith
+column-rank-below Flow = omega arith
+column-rank-below Shed = omega arith
+column-rank-below Cost = omega arith
+
 -- a block of columns ends within them
 pub column-within : (c : Counts) (a : Active) (b : OpfColumn) → columnStart c a b + columnSize c a b ≤ nvar c a
 unfolding columnStart nvar
 column-within c a b = omega (arith, inside (columnSizes c a) (columnRank b), column-size c a b)
-
--- so each place of a block is a column of the program
-pub column-below : (c : Counts) (a : Active) (b : OpfColumn) (i : ℕ) → i < columnSize c a b → columnStart c a b + i < nvar c a
-column-below c a b i h = omega (arith, column-within c a b)
 
 -- two places that are one column are of one block, at one index
 pub columns-apart : (c : Counts) (a : Active) (b d : OpfColumn) (i j : ℕ) → i < columnSize c a b → j < columnSize c a d → columnStart c a b + i ≡ columnStart c a d + j → (b ≡ d) × (i ≡ j)
@@ -97,7 +100,7 @@ row-size c a Segment = refl
 row-size c a LinearEqual = refl
 row-size c a LinearLimit = refl
 
-row-of-rank : (b : OpfRow) → getD rows (rowRank b) Balance ≡ b
+pub row-of-rank : (b : OpfRow) → getD rows (rowRank b) Balance ≡ b
 row-of-rank Balance = refl
 row-of-rank FlowRow = refl
 row-of-rank Reference = refl
@@ -113,14 +116,26 @@ row-of-rank Segment = refl
 row-of-rank LinearEqual = refl
 row-of-rank LinearLimit = refl
 
+pub row-rank-below : (b : OpfRow) → rowRank b < 14
+row-rank-below Balance = omega arith
+row-rank-below FlowRow = omega arith
+row-rank-below Reference = omega arith
+row-rank-below LineUb = omega arith
+row-rank-below LineLb = omega arith
+row-rank-below GenUb = omega arith
+row-rank-below GenLb = omega arith
+row-rank-below ShedUb = omega arith
+row-rank-below ShedLb = omega arith
+row-rank-below PhaseUb = omega arith
+row-rank-below PhaseLb = omega arith
+row-rank-below Segment = omega arith
+row-rank-below LinearEqual = omega arith
+row-rank-below LinearLimit = omega arith
+
 -- a block of rows ends within them
 pub row-within : (c : Counts) (a : Active) (b : OpfRow) → rowStart c a b + rowSize c a b ≤ ncon c a
 unfolding rowStart ncon
 row-within c a b = omega (arith, inside (rowSizes c a) (rowRank b), row-size c a b)
-
--- so each place of a block is a row of the program
-pub row-below : (c : Counts) (a : Active) (b : OpfRow) (i : ℕ) → i < rowSize c a b → rowStart c a b + i < ncon c a
-row-below c a b i h = omega (arith, row-within c a b)
 
 -- two places that are one row are of one block, at one index
 pub rows-apart : (c : Counts) (a : Active) (b d : OpfRow) (i j : ℕ) → i < rowSize c a b → j < rowSize c a d → rowStart c a b + i ≡ rowStart c a d + j → (b ≡ d) × (i ≡ j)
@@ -210,10 +225,3 @@ cone-of c a i h =
 -- two places that are one row are of one cone, at one index
 pub cones-apart : (c : Counts) (a : Active) (k l i j : ℕ) → i < getD (cones c a) k 0 → j < getD (cones c a) l 0 → start (cones c a) k + i ≡ start (cones c a) l + j → (k ≡ l) × (i ≡ j)
 cones-apart c a k l i j hi hj e = one-place (cones c a) k l i j hi hj e
-
--- the first two cones: equalities up to the limits, then these up to the linear rows
-pub first-cones : (c : Counts) (a : Active)
-    → (getD (cones c a) 0 0 ≡ rowStart c a LineUb) × (start (cones c a) 1 ≡ rowStart c a LineUb)
-    × (getD (cones c a) 1 0 ≡ limitRows c a) × (start (cones c a) 2 ≡ rowStart c a LinearEqual)
-unfolding cones
-first-cones c a = (refl, omega arith, refl, omega (arith, linear-start c a))

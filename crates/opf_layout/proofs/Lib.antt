@@ -1,5 +1,4 @@
--- The laws of the layout: counting, ranks, blocks, and B3 and B4. Assumes nothing.
+-- The laws of the layout: counting, ranks, blocks. Assumes nothing.
 pub mod Counting
 pub mod Ranks
 pub mod Blocks
-pub mod Bench

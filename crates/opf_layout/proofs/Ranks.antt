@@ -1,15 +1,15 @@
 -- Active limits are numbered 0, 1, 2, .. in order, each number met once; a linear row holds as many places as it has rows, one after the other.
--- Main results: `rank-below`, `rank-apart`, `rank-met`; `piece-rank`; `equality-apart`, `equality-met`, `inequality-apart`, `inequality-met`. Assumes nothing.
-use mathlib.Core.Path.{_≡_, refl, sym, ap, subst}
+-- Main results: `rank-below`, `rank-apart`, `rank-met`, `rank-few`; `piece-rank`; `equality-apart`, `equality-met`, `inequality-apart`, `inequality-met`. Assumes nothing.
+use mathlib.Core.Path.{_≡_, refl, sym, subst}
 use mathlib.Core.Bool.{Bool, true, false, cond, not}
 use mathlib.Core.List.{List}
-use Prim.Native.Nat.{ℕ, zero, suc, _+_, _-_, _<_}
+use Prim.Native.Nat.{ℕ, zero, suc, _+_, _-_, _≤_, _<_}
 use native.Mathlib.Omega.{arith}
 use native.Mathlib.Decide.{decLt}
 use lib.Dec.{T, eqb}
 use lib.Ieee.{Float}
 use Rattle.sequence.specs.Lists.{before}
-use Rattle.sequence.proofs.Lists.{before-none, before-more, before-within, before-same}
+use Rattle.sequence.proofs.Lists.{before-within, before-same, before-bound, before-apart}
 use Rattle.network.specs.declared.Counts.{Counts}
 use Rattle.network.specs.declared.Part.the-variants.{Segments}
 use Rattle.network.specs.Layout.{segmentsAt}
@@ -22,15 +22,6 @@ use Rattle.opf_layout.specs.Layout.{activeRank, flagged, equalities, ine
 -- a place of one lies below the sum of all
 pub width-below : (f : ℕ → ℕ) (i n t : ℕ) → i < n → t < f i → before f i + t < before f n
 width-below f i n t h l = omega (arith, before-within f i n h)
-
--- two places that are one place are of one width, at one index
-pub width-apart : (f : ℕ → ℕ) (i j t s : ℕ) → t < f i → s < f j → before f i + t ≡ before f j + s → (i ≡ j) × (t ≡ s)
-width-apart f i j t s ht hs e = go (decLt i j) (decLt j i)
-  where
-    go : Dec (i < j) → Dec (j < i) → (i ≡ j) × (t ≡ s)
-    go (yes l) d = absurd (omega (arith, e, width-below f i j t l ht))
-    go (no l) (yes d) = absurd (omega (arith, e, width-below f j i s d hs))
-    go (no l) (no d) = let q : i ≡ j = omega arith in (q, omega (arith, e, ap (before f) q))
 
 -- place k belongs to one of the first n
 pub record Held (f : ℕ → ℕ) (n k : ℕ) : Type 0 where
@@ -73,7 +64,7 @@ rank-below on i n e h = omega (arith, width-below (λ i. cond (on i) 1 0) i n 0 
 -- no other has it
 pub rank-apart : (on : ℕ → Bool) (i j : ℕ) → on i ≡ true → on j ≡ true → activeRank on i ≡ activeRank on j → i ≡ j
 unfolding activeRank
-rank-apart on i j p q e = width-apart (λ i. cond (on i) 1 0) i j 0 0 (own (on i) p) (own (on j) q) (omega (arith, e)) .0
+rank-apart on i j p q e = before-apart (λ i. cond (on i) 1 0) i j 0 0 (own (on i) p) (own (on j) q) (omega (arith, e)) .0
 
 -- k is the number of one of the first n, an active one
 pub record Met (on : ℕ → Bool) (n k : ℕ) : Type 0 where
@@ -92,15 +83,14 @@ rank-met on n k h = go (width-met (λ i. cond (on i) 1 0) n k h)
         let q = owned (on (p .index)) (p .at) (p .inside) in
         record { index = p .index; below = p .below; active = q .0; is = omega (arith, p .is, q .1) }
 
--- an active one takes the next number
-pub rank-on : (on : ℕ → Bool) (i : ℕ) → on i ≡ true → activeRank on (i + 1) ≡ activeRank on i + 1
-unfolding activeRank
-rank-on on i e = rw (before-more (λ i. cond (on i) 1 0) i, e)
+one-few : (b : Bool) → cond b 1 0 ≤ 1
+one-few true = omega arith
+one-few false = omega arith
 
--- and one that is off takes none
-pub rank-off : (on : ℕ → Bool) (i : ℕ) → on i ≡ false → activeRank on (i + 1) ≡ activeRank on i
+-- no more are active than there are
+pub rank-few : (on : ℕ → Bool) (n : ℕ) → activeRank on n ≤ n
 unfolding activeRank
-rank-off on i e = rw (before-more (λ i. cond (on i) 1 0) i, e) (omega arith)
+rank-few on n = omega (arith, before-bound (λ i. cond (on i) 1 0) 1 n (λ i h. one-few (on i)))
 
 -- ---- piecewise generators
 
@@ -135,11 +125,11 @@ module _ (c : Counts) (w : List ℕ) (r : List Float) where
   -- rows do not overlap
   pub equality-apart : (q p t s : ℕ) → t < equal q → s < equal p → equalityRank c w r q + t ≡ equalityRank c w r p + s → (q ≡ p) × (t ≡ s)
   unfolding equalityRank
-  equality-apart q p t s ht hs e = width-apart equal q p t s ht hs e
+  equality-apart q p t s ht hs e = before-apart equal q p t s ht hs e
 
   pub inequality-apart : (q p t s : ℕ) → t < limit q → s < limit p → inequalityRank c w r q + t ≡ inequalityRank c w r p + s → (q ≡ p) × (t ≡ s)
   unfolding inequalityRank
-  inequality-apart q p t s ht hs e = width-apart limit q p t s ht hs e
+  inequality-apart q p t s ht hs e = before-apart limit q p t s ht hs e
 
   -- each place below the count belongs to a row
   pub record EqualityMet (n k : ℕ) : Type 0 where

@@ -24,6 +24,7 @@ use Rattle.opf_layout.specs.declared.OpfRow.the-variants.{Balance, Reference, G
 use Rattle.opf_layout.specs.declared.OpfLayout.{OpfLayout}
 use Rattle.opf_layout.specs.Layout.{activeRank, flagged, sheds, equalities, inequalities, equalityRank, inequalityRank}
 use Rattle.opf_layout.proofs.Counting.{rank-none, equalities-few, inequalities-few}
+use Rattle.opf_layout.proofs.Ranks.{rank-few}
 use Rattle.opf_matrix.specs.declared.Ranks.{Ranks}
 use Rattle.opf_matrix.specs.declared.Group.{Group}
 use Rattle.opf_matrix.specs.declared.Group.the-variants.{ShedEntries, GeneratorEntries, BranchEntries, ReferenceEntries, CapabilityEntries, ShedBounds, SegmentEntries, RowEntries}
@@ -88,17 +89,9 @@ module _ (x : OpfLayout) (c : Counts) (w : List ℕ) (r : List Float) (i : ℕ) 
 
 -- ---- the counts
 
-one-few : (b : Bool) → cond b 1 0 ≤ 1
-one-few true = omega arith
-one-few false = omega arith
-
 none-few : (b : Bool) → cond b 0 1 ≤ 1
 none-few true = omega arith
 none-few false = omega arith
-
-rank-few : (on : ℕ → Bool) (i : ℕ) → activeRank on i ≤ i
-unfolding activeRank
-rank-few on i = omega (arith, before-bound (λ i. cond (on i) 1 0) 1 i (λ j h. one-few (on j)))
 
 pub piece-few : (c : Counts) (w : List ℕ) (i : ℕ) → pieceRank c w i ≤ i
 unfolding pieceRank

@@ -3,7 +3,7 @@
 use mathlib.Core.Path.{_≡_, refl, sym}
 use mathlib.Core.Bool.{Bool, true, false}
 use mathlib.Core.List.{List, [], _∷_, _++_}
-use Prim.Native.Nat.{ℕ, zero, suc, _+_, _*_, _≤_, _<_}
+use Prim.Native.Nat.{ℕ, zero, suc, _+_, _*_, _≤_}
 use native.Mathlib.Omega.{arith}
 use lib.Ieee.{Float}
 use Rattle.float64.specs.Values.{whole}
@@ -13,7 +13,7 @@ use borrow.Author.Tests.{le-ltb}
 use Rattle.sequence.specs.declared.Item.{Item}
 use Rattle.sequence.specs.Lists.{before, each, when}
 use Rattle.sequence.specs.Sheets.{triplet, emit}
-use Rattle.sequence.proofs.Lists.{before-bound}
+use Rattle.sequence.proofs.Lists.{before-bound, each-long}
 use Rattle.network.specs.declared.Counts.{Counts}
 use Rattle.network.specs.declared.Field.{Field}
 use Rattle.network.specs.declared.Field.the-variants.{Cq, Slopes}
@@ -27,7 +27,6 @@ use Rattle.solution.specs.declared.Entry.{Entry}
 use Rattle.solution.specs.Sheet.{pieceRank}
 use Rattle.snapping.specs.Expr.{Expr, eval, unit, lessUnit}
 use Rattle.snapping.specs.Expr.Expr.{num, rd, _⊗_}
-use Rattle.sens_snap.proofs.Words.{each-long}
 use Rattle.opf_layout.specs.declared.OpfColumn.{OpfColumn}
 use Rattle.opf_layout.specs.declared.OpfColumn.the-variants.{Pg, Flow, Cost}
 use Rattle.opf_layout.specs.declared.OpfRow.{OpfRow}

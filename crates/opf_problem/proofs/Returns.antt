@@ -3,6 +3,7 @@
 use mathlib.Core.Path.{_≡_, refl, sym, ap, _∙_}
 use mathlib.Core.Bool.{Bool, true, false, _||_}
 use mathlib.Core.List.{List, []}
+use mathlib.Mathlib.Data.Bool.Basic.{or-inl, or-inr}
 use Prim.Native.Nat.{ℕ, _≤_, _<_}
 use native.Mathlib.Omega.{arith}
 use lib.Dec.{ltb}
@@ -13,13 +14,14 @@ use Rattle.sequence.specs.Lists.{front}
 use Rattle.sequence.specs.Answers.{firstOf}
 use Rattle.sequence.specs.Sheets.{Laid as Triplets, laid, lays}
 use Rattle.sequence.proofs.Answers.{no-test, passed, holding}
+use Rattle.sequence.proofs.Lists.{or-none}
 use Rattle.network.specs.declared.Counts.{Counts}
 use Rattle.network.specs.Numbers.{Network, networkTests}
 use Rattle.model.proofs.Calls.{network-stands, network-passes}
 use Rattle.opf_layout.specs.declared.OpfLayout.{OpfLayout}
 use Rattle.opf_layout.specs.Layout.{activeOf, cones}
 use Rattle.opf_assembly.specs.Assembly.{pTriplets, aTriplets, qSheet, bSheet}
-use Rattle.opf_sides.proofs.Lengths.{q-long, b-long}
+use Rattle.opf_assembly.proofs.Lengths.{q-long, b-long}
 use Rattle.opf_sides.proofs.Cones.{cones-are}
 use Rattle.opf_sides.specs.Walks.{conesIn}
 use Rattle.opf_problem.specs.declared.Rooms.{Rooms}
@@ -46,17 +48,6 @@ module _ (N : Network) (s : Program) {k : ℕ} (e : k ≡ firstOf (networkTests 
   assemble-done z h = rw (network-passes N true true _ e z, passed 7 (shortProgram (partsOf N) s) [] h, no-test)
 
 -- ---- which results have room
-
-or-right : (a b : Bool) → b ≡ true → a || b ≡ true
-or-right true b e = refl
-or-right false b e = e
-
-or-left : (a b : Bool) → a ≡ true → a || b ≡ true
-or-left a b e = rw e
-
-or-false : (a b : Bool) → a || b ≡ false → (a ≡ false) × (b ≡ false)
-or-false true b e = let z : _≡_ {A = Bool} true false = e in (z, cc)
-or-false false b e = (refl, e)
 
 -- every result has room
 pub record Fits (c : Counts) (w : List ℕ) (r : List Float) (ti : List ℕ) (tc : List Float) (room : Rooms) : Type 0 where
@@ -88,20 +79,20 @@ module _ {c : Counts} {w : List ℕ} {r : List Float} {ti : List ℕ} {tc : List
   pub q-short : room .q < lay .nvar → true ≡ anyShort c w r ti tc room
   q-short l =
       let g : room .q < length (qSheet c w r) = omega (arith, q-long c w r, h .placed .nvar-is) in
-      sym (or-right p? (a? || (q? || (b? || cones?))) (or-right a? (q? || (b? || cones?)) (or-left q? (b? || cones?) (lt-ltb (room .q) (length (qSheet c w r)) g))))
+      sym (or-inr p? (a? || (q? || (b? || cones?))) (or-inr a? (q? || (b? || cones?)) (or-inl q? (b? || cones?) (lt-ltb (room .q) (length (qSheet c w r)) g))))
 
   pub b-short : room .b < lay .ncon → true ≡ anyShort c w r ti tc room
   b-short l =
       let g : room .b < length (bSheet c w r) = omega (arith, b-long c w r, h .placed .ncon-is) in
-      sym (or-right p? (a? || (q? || (b? || cones?))) (or-right a? (q? || (b? || cones?)) (or-right q? (b? || cones?) (or-left b? cones? (lt-ltb (room .b) (length (bSheet c w r)) g)))))
+      sym (or-inr p? (a? || (q? || (b? || cones?))) (or-inr a? (q? || (b? || cones?)) (or-inr q? (b? || cones?) (or-inl b? cones? (lt-ltb (room .b) (length (bSheet c w r)) g)))))
 
   pub cones-short : {k : ℕ} → k ≡ length (conesIn lay) → room .cones < k → true ≡ anyShort c w r ti tc room
   cones-short e l =
       let g : room .cones < length (cones c (activeOf c w r)) = omega (arith, same-cones) in
-      sym (or-right p? (a? || (q? || (b? || cones?))) (or-right a? (q? || (b? || cones?)) (or-right q? (b? || cones?) (or-right b? cones? (lt-ltb (room .cones) (length (cones c (activeOf c w r))) g)))))
+      sym (or-inr p? (a? || (q? || (b? || cones?))) (or-inr a? (q? || (b? || cones?)) (or-inr q? (b? || cones?) (or-inr b? cones? (lt-ltb (room .cones) (length (cones c (activeOf c w r))) g)))))
 
   pub p-short : {x : Bool} → x ≡ p? → x ≡ true → true ≡ anyShort c w r ti tc room
-  p-short e l = sym (or-left p? (a? || (q? || (b? || cones?))) (sym e ∙ l))
+  p-short e l = sym (or-inl p? (a? || (q? || (b? || cones?))) (sym e ∙ l))
 
   -- A's room is left to decide
   pub a-decides : {k : ℕ} {x y : Bool} → k ≡ length (conesIn lay) → x ≡ p? → y ≡ a? → lay .nvar ≤ room .q → lay .ncon ≤ room .b → k ≤ room .cones → x ≡ false → y ≡ anyShort c w r ti tc room
@@ -117,10 +108,10 @@ module _ {c : Counts} {w : List ℕ} {r : List Float} {ti : List ℕ} {tc : List
 
 pub all-fit : (c : Counts) (w : List ℕ) (r : List Float) (ti : List ℕ) (tc : List Float) (room : Rooms) → anyShort c w r ti tc room ≡ false → Fits c w r ti tc room
 all-fit c w r ti tc room e =
-    let p = or-false (ltb (room .p) (length (pTriplets c w r))) _ e in
-    let a = or-false (ltb (room .a) (length (aTriplets c w r ti tc))) _ (p .1) in
-    let q = or-false (ltb (room .q) (length (qSheet c w r))) _ (a .1) in
-    let b = or-false (ltb (room .b) (length (bSheet c w r))) _ (q .1) in
+    let p = or-none (ltb (room .p) (length (pTriplets c w r))) _ e in
+    let a = or-none (ltb (room .a) (length (aTriplets c w r ti tc))) _ (p .1) in
+    let q = or-none (ltb (room .q) (length (qSheet c w r))) _ (a .1) in
+    let b = or-none (ltb (room .b) (length (bSheet c w r))) _ (q .1) in
     record {
       p-fits = ltb-false _ _ (p .0);
       a-fits = ltb-false _ _ (a .0);

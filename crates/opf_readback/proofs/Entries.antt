@@ -9,7 +9,8 @@ use lib.ListN.{length, getD, set}
 use lib.Seq.{sets, ext-getD}
 use lib.Ieee.{Float, nan}
 use Rattle.sequence.specs.Lists.{made, each}
-use Rattle.sequence.proofs.Lists.{made-length, made-at, made-same}
+use Rattle.sequence.proofs.Lists.{made-length, made-at, made-same, each-long}
+use Rattle.sequence.proofs.Blocks.{before-start}
 use Rattle.network.specs.declared.Counts.{Counts}
 use Rattle.network.specs.declared.Part.the-variants.{GeneratorFlags, ThermalFlags, AngleFlags}
 use Rattle.model.specs.declared.RowLimits.{RowLimits}
@@ -19,8 +20,8 @@ use Rattle.model.specs.Quantities.{evaluate}
 use Rattle.solution.specs.declared.Entry.{Entry}
 use Rattle.solution.specs.declared.Entry.the-variants.{Va, Pg, Flow, Psh, NuBal, LamUb, LamLb, RhoUb, RhoLb, MuUb, MuLb, GammaUb, GammaLb, Epigraph, SegmentDual, LinearDual, LinearValue, Objective}
 use Rattle.solution.specs.Sheet.{entries, size, sizes, pieces, sheetLength}
-use Rattle.sens_snap.proofs.Words.{each-long, before-start, entry-size}
 use Rattle.snapping.proofs.Rows.{part, part-length, part-at}
+use Rattle.snapping.proofs.Words.{entry-size}
 use Rattle.opf_layout.specs.declared.OpfColumn.{OpfColumn}
 use Rattle.opf_layout.specs.declared.OpfColumn.the-variants as columns
 use Rattle.opf_layout.specs.declared.OpfRow.{OpfRow}

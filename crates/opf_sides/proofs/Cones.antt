@@ -3,19 +3,17 @@
 use mathlib.Core.Path.{_≡_, refl, sym, ap, _∙_}
 use mathlib.Core.Bool.{Bool, true, false, cond, not}
 use mathlib.Core.List.{List, [], _∷_, _++_, append-nil}
-use Prim.Native.Nat.{ℕ, _+_, _≤_, _<_}
+use Prim.Native.Nat.{ℕ, _+_}
 use native.Mathlib.Omega.{arith}
 use lib.Dec.{eqb}
-use lib.ListN.{length, getD}
+use lib.ListN.{length}
 use Rattle.sequence.specs.Lists.{when}
 use Rattle.network.specs.declared.Counts.{Counts}
 use Rattle.opf_layout.specs.declared.Active.{Active}
 use Rattle.opf_layout.specs.declared.OpfLayout.{OpfLayout}
-use Rattle.opf_layout.specs.declared.OpfRow.the-variants.{LineUb}
-use Rattle.opf_layout.specs.Layout.{alsoIf, cones, rowStart, Bounded, Placed}
+use Rattle.opf_layout.specs.Layout.{alsoIf, cones, Bounded, Placed}
 use Rattle.opf_layout.proofs.Counting.{ncon-few}
 use Rattle.opf_layout.proofs.Blocks.{cones-all}
-use Rattle.sequence.specs.Layout.{total}
 use Rattle.opf_sides.specs.Walks.{conesIn, Narrowed}
 
 pub also-length : (n : ℕ) (rest : List ℕ) {k : ℕ} → k ≡ cond (not (eqb n 0)) 1 0 → length (alsoIf n rest) ≡ k + length rest

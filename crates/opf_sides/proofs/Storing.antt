@@ -8,9 +8,8 @@ use native.Mathlib.Omega.{arith}
 use lib.ListN.{length, getD, set, length-set, length-append}
 use lib.Seq.{getD-set-same, set-set}
 use Rattle.sequence.specs.Lists.{before, each, when, made, front}
-use Rattle.sequence.proofs.Lists.{each-more, before-within}
+use Rattle.sequence.proofs.Lists.{each-more, before-within, each-long}
 use Rattle.sens_snap.proofs.Stores.{sets-append, fronted}
-use Rattle.sens_snap.proofs.Words.{each-long}
 use Rattle.network.specs.declared.Counts.{Counts}
 use Rattle.opf_layout.specs.declared.OpfColumn.{OpfColumn}
 use Rattle.opf_layout.specs.declared.OpfRow.{OpfRow}

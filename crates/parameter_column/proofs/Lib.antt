@@ -1,3 +1,2 @@
 -- The laws that the proofs of a column cite. Assumes nothing.
 pub mod Touching
-pub mod Bench

@@ -1,7 +1,7 @@
 -- What the selector's parts and the returns of `operand_selector` come to.
 -- Main results: `put-all`, `short-is`, `room-of`; `lay-short`, `lay-done`; `selector-refused`, `selector-unknown`, `selector-served`. Assumes nothing.
 use mathlib.Core.Path.{_≡_, refl, sym, ap, _∙_}
-use mathlib.Core.Bool.{Bool, true, false, cond, _||_}
+use mathlib.Core.Bool.{Bool, true, false, _||_}
 use mathlib.Core.List.{List, [], _∷_}
 use Prim.Native.Nat.{ℕ, _+_, _≤_}
 use native.Mathlib.Omega.{arith}
@@ -11,8 +11,7 @@ use lib.Ieee.{Float}
 use borrow.Author.Tests.{ltb-false, ne-eqb}
 use Rattle.float64.specs.Values.{one}
 use Rattle.sequence.specs.Lists.{made, front}
-use Rattle.sequence.specs.Answers.{Test}
-use Rattle.sequence.proofs.Lists.{made-length}
+use Rattle.sequence.proofs.Lists.{made-length, or-none}
 use Rattle.sequence.proofs.Answers.{no-test, passed, holding}
 use Rattle.interface.specs.declared.Operand.{Operand}
 use Rattle.network.specs.declared.Counts.{Counts}
@@ -45,10 +44,6 @@ put-all s k r w start n e f g h = rw (e ∙ ap (λ (l : List Float). front l s) 
 pub short-is : (s : List Float) (k r : List ℕ) (w : List Float) (start n : ℕ)
     → ltb (length s) 1 || ltb (length k) n || ltb (length r) n || ltb (length w) n ≡ shortOf (unitRows start n) (selection s k r w)
 short-is s k r w start n = rw (made-length {A = ℕ} (λ i. 1) n, made-length {A = ℕ} (λ i. start + i) n, made-length {A = Float} (λ i. one) n)
-
-or-none : (a b : Bool) → a || b ≡ false → (a ≡ false) × (b ≡ false)
-or-none false b e = (refl, e)
-or-none true b e = (e, ap (λ (x : Bool). cond x b false) e)
 
 pub room-of : (s k r w n : ℕ) → ltb s 1 || ltb k n || ltb r n || ltb w n ≡ false → (1 ≤ s) × (n ≤ k) × (n ≤ r) × (n ≤ w)
 room-of s k r w n e =

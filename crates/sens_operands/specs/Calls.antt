@@ -1,7 +1,7 @@
 -- sens/dc.rs's `operand_selector` as a call: for each element of an operand the one row of the system that it reads, with weight 1.
 -- Main definitions: `servedOf`, `selection`, `selectorCall`. Assumes nothing.
 use Prim.Native.Nat.{ℕ, _+_}
-use mathlib.Core.Bool.{Bool, true, false, cond, _||_}
+use mathlib.Core.Bool.{Bool, true, cond, _||_}
 use mathlib.Core.List.{List, [], _∷_, _++_}
 use lib.Dec.{eqb}
 use lib.Ieee.{Float}

@@ -1,11 +1,10 @@
 -- Tests over a list of columns, one turn after the other, and of room by a quotient.
--- Main results: `some-none`, `some-more`, `some-holds`; `same-test`, `positive`; `columns-at`, `number-5` to `number-cost`. Assumes nothing.
+-- Main results: `some-none`, `some-more`; `same-test`, `positive`; `columns-at`, `number-5` to `number-cost`. Assumes nothing.
 use mathlib.Core.Path.{_≡_, refl, sym, subst, _∙_}
-use mathlib.Core.Bool.{Bool, true, false, _||_}
+use mathlib.Core.Bool.{Bool, true, false}
 use mathlib.Core.List.{List}
-use mathlib.Core.Logic.{⊎-elim, _↔_}
-use Prim.Native.Nat.{ℕ, zero, suc, _+_, _≤_, _<_}
-use native.Mathlib.Nat.{eq-or-lt-of-le, not-suc-le-zero, le-of-suc-le-suc}
+use mathlib.Core.Logic.{_↔_}
+use Prim.Native.Nat.{ℕ, _+_, _≤_, _<_}
 use native.Mathlib.Numerals.{add-one}
 use native.Mathlib.Decide.{decLt}
 use native.Mathlib.Omega.{arith}
@@ -28,16 +27,6 @@ some-none test = refl
 pub some-more : (test : ℕ → Bool) (i : ℕ) → some test i ≡ false → test i ≡ false → some test (i + 1) ≡ false
 unfolding some
 some-more test i e h = rw (add-one, e, h)
-
-or-true : (a : Bool) → a || true ≡ true
-or-true true = refl
-or-true false = refl
-
-pub some-holds : (test : ℕ → Bool) (i n : ℕ) → i < n → test i ≡ true → some test n ≡ true
-unfolding some
-some-holds test i zero h b = absurd (not-suc-le-zero h)
-some-holds test i (suc n) h b =
-    ⊎-elim (λ e. rw (← e, b, or-true)) (λ l. rw (some-holds test i n l b)) (eq-or-lt-of-le (le-of-suc-le-suc h))
 
 over : (x y : ℕ) → (x < y → ⊥) → y ≤ x
 over x y f = omega arith

@@ -7,7 +7,7 @@ use Prim.Native.Nat.{ℕ}
 use native.Mathlib.Omega.{arith}
 use native.Mathlib.Decide.{ℕ-discrete}
 use lib.Dec.{eqb}
-use lib.ListN.{length, drop}
+use lib.ListN.{length}
 use lib.Ieee.{Float}
 use borrow.Author.Tests.{eq-eqb, ne-eqb}
 use Rattle.sequence.specs.Lists.{front}
@@ -17,11 +17,10 @@ use Rattle.network.specs.declared.Counts.{Counts}
 use Rattle.network.specs.Numbers.{Network}
 use Rattle.model.proofs.Calls.{network-stands, network-passes}
 use Rattle.solution.specs.Sheet.{pieces}
-use Rattle.solution_check.specs.Tests.{counted, piecesOf, solutionLong, solutionHolds, solutionTests}
+use Rattle.solution_check.specs.Tests.{counted, solutionLong, solutionHolds, solutionTests}
 use Rattle.interface.specs.declared.Parameter.{Parameter}
 use Rattle.parameter_column.specs.declared.Served.{Served}
 use Rattle.parameter_sheet.specs.Sheet.{jacobian}
-use Rattle.sens_parameters.specs.declared.ServedParameter.{ServedParameter}
 use Rattle.sens_parameters.specs.declared.ServedParameter.the-variants.{Known, Unknown}
 use Rattle.sens_parameters.specs.Calls.{servedOf, columnsHold, isCost, somePiecewise, columnsNumber, columnsOf, resultOf, ownTests, jacobianNumber, servedNumber, columnsFilled, jacobianCall}
 

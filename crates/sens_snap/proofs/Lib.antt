@@ -1,7 +1,5 @@
 -- Laws that several proofs of this crate cite. Assumes nothing.
 pub mod Steps
 pub mod Stores
-pub mod Segments
 pub mod Turns
-pub mod Words
 pub mod Returns

@@ -1,6 +1,6 @@
 -- The calls of sens/dc.rs that fill a sheet: 01's number, a count of readings, and the sheet afterwards. Assumes nothing.
 use Prim.Native.Nat.{ℕ}
-use mathlib.Core.Bool.{Bool, true}
+use mathlib.Core.Bool.{true}
 use mathlib.Core.List.{List, [], _∷_, _++_}
 use lib.Ieee.{Float}
 use Rattle.sequence.specs.Answers.{test, firstOf, short, Filled, fills}

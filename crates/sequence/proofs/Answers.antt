@@ -1,5 +1,5 @@
 -- The laws of answers by number: tests that are passed, the one that holds, and what a call leaves. Assumes nothing.
-use mathlib.Core.Path.{_≡_, refl, sym, ap, _∙_, subst}
+use mathlib.Core.Path.{_≡_, refl, subst}
 use mathlib.Core.Bool.{Bool, true, false, cond, not, _&&_}
 use mathlib.Core.List.{List, [], _∷_, _++_}
 use Prim.Native.Nat.{ℕ}
@@ -7,8 +7,7 @@ use lib.ListN.{length}
 use lib.Dec.{T, eqb}
 use borrow.Author.Tests.{ne-eqb}
 use Rattle.sequence.specs.Lists.{front}
-use Rattle.sequence.specs.Answers.{Test, test, firstOf, marked, Filled, filled, fills}
-use Rattle.sequence.proofs.Lists.{and-left, and-right}
+use Rattle.sequence.specs.Answers.{Test, test, firstOf, marked, filled, fills}
 
 pub no-test : firstOf [] ≡ 0
 unfolding firstOf

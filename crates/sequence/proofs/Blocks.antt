@@ -1,11 +1,24 @@
--- Blocks of a flat list lie apart: main results `apart`, `inside`, `one-place`, `in-block`. Assumes nothing.
+-- Blocks of a flat list lie apart: main results `before-start`, `apart`, `inside`, `one-place`, `in-block`. Assumes nothing.
 use mathlib.Core.Path.{_≡_, refl, sym, ap}
 use mathlib.Core.List.{List, [], _∷_}
 use Prim.Native.Nat.{ℕ, zero, suc, _+_, _-_, _≤_, _<_}
 use native.Mathlib.Omega.{arith}
 use native.Mathlib.Decide.{decLt}
-use lib.ListN.{length, take, getD}
+use lib.ListN.{length, getD}
 use Rattle.sequence.specs.Layout.{total, start}
+use Rattle.sequence.specs.Lists.{before}
+
+-- where the next block begins, and so each
+pub start-suc : (xs : List ℕ) (k : ℕ) → start xs (suc k) ≡ start xs k + getD xs k 0
+start-suc [] zero = refl
+start-suc [] (suc k) = refl
+start-suc (x ∷ xs) zero = omega arith
+start-suc (x ∷ xs) (suc k) = omega (arith, start-suc xs k)
+
+pub before-start : (xs : List ℕ) (k : ℕ) → before (λ i. getD xs i 0) k ≡ start xs k
+unfolding before
+before-start xs zero = refl
+before-start xs (suc k) = rw (before-start xs k) (sym (start-suc xs k))
 
 -- a block ends before a later one begins
 pub apart : (sizes : List ℕ) (r s : ℕ) → r < s → start sizes r + getD sizes r 0 ≤ start sizes s

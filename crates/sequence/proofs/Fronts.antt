@@ -42,6 +42,12 @@ module _ {A : Type 0} where
       let l : length new + length more ≤ length (front new old) = simp (length-append, length-drop) (omega arith) in
       rw (← e, sets-eq more (front new old) (length new) l, take-front new old, drop-append-add, drop-drop, length-append, append-assoc)
 
+  -- one word stored is a front of one
+  pub one-front : (x : A) (sheet : List A) → 1 ≤ length sheet → set sheet 0 x ≡ front (x ∷ []) sheet
+  unfolding front
+  one-front x [] h = absurd (omega arith)
+  one-front x (y ∷ ys) h = refl
+
   -- one value more: v is stored where n values are made
   pub made-turn : (f : ℕ → A) (n : ℕ) (v : A) (old xs : List A) → v ≡ f n → n < length old → xs ≡ front (made f n) old → set xs n v ≡ front (made f (n + 1)) old
   unfolding made

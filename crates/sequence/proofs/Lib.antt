@@ -1,5 +1,6 @@
 -- The laws that proofs cite, here and in the crates above. Assumes nothing.
 pub mod Lists
+pub mod Facts
 pub mod Fronts
 pub mod Blocks
 pub mod Answers

@@ -1,18 +1,17 @@
 -- The laws of chains: how they are linked, and that a walk along one is the plain scan over every index.
 -- Main results: `links-none`, `links-more`, `scan-skip`, `scan-hit`, `walk-more`. Assumes nothing.
-use mathlib.Core.Path.{_≡_, refl, sym, ap, _∙_}
-use mathlib.Core.Bool.{Bool, true, false}
-use mathlib.Core.List.{List, [], _∷_, _++_}
+use mathlib.Core.Path.{_≡_, refl, sym, _∙_}
+use mathlib.Core.List.{List, _++_}
 use Prim.Native.Nat.{ℕ, _+_, _≤_, _<_}
 use native.Mathlib.Omega.{arith}
 use native.Mathlib.Decide.{ℕ-discrete}
 use lib.ListN.{length, getD, set}
 use lib.Dec.{eqb}
 use borrow.Author.Tests.{eq-eqb, ne-eqb}
-use Rattle.sequence.specs.Lists.{each, when, turns}
+use Rattle.sequence.specs.Lists.{each, when}
 use Rattle.sequence.specs.Links.{First, Links}
 use Rattle.sequence.specs.Sheets.{Triplet, Sheets, Puts}
-use Rattle.sequence.proofs.Lists.{each-skip, each-more, turns-skip, turns-more, stored-at}
+use Rattle.sequence.proofs.Lists.{each-skip, each-more, stored-at}
 use Rattle.sequence.proofs.Sheets.{none, then}
 
 -- one word more is filled

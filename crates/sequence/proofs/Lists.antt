@@ -1,18 +1,19 @@
--- The laws of what loops make: one turn more, turns that change nothing, equal turns. Assumes nothing.
+-- The laws of booleans, and of what loops make: one turn more, turns that change nothing, equal turns, runs laid end to end. Assumes nothing.
 use mathlib.Core.Path.{_≡_, refl, sym, ap, _∙_, subst}
-use mathlib.Core.Bool.{Bool, true, false, not, _&&_, and-false}
+use mathlib.Core.Bool.{Bool, true, false, not, _&&_, _||_, and-false, or-true, false≢true}
+use mathlib.Mathlib.Data.Bool.Basic.{or-eq-false-eq-eq-false-and-eq-false}
 use borrow.Author.Tests.{not-true, not-false}
-use mathlib.Core.List.{List, [], _∷_, _++_, append-nil, append-assoc}
-use mathlib.Core.Logic.{_⊎_, inl, inr, ⊎-elim}
+use mathlib.Core.List.{List, [], _∷_, _++_, map, append-nil, append-assoc}
+use mathlib.Core.Logic.{_⊎_, ⊎-elim}
 use Prim.Native.Nat.{ℕ, zero, suc, _+_, _-_, _*_, _≤_, _<_}
 use native.Mathlib.Nat.{eq-or-lt-of-le, not-suc-le-zero, le-of-suc-le-suc}
 use native.Mathlib.Numerals.{add-one}
 use native.Mathlib.Omega.{arith}
 use native.Mathlib.Decide.{ℕ-discrete, decLt}
 use lib.Dec.{T}
-use lib.ListN.{length, getD, set, drop, length-append, length-set, length-drop, List·getD-append}
-use lib.Seq.{drop-cons, set-at, ext-getD, getD-append-add, getD-at, getD-set-same, getD-set-other, getD-drop, take-at}
-use Rattle.sequence.specs.Lists.{before, every, each, when, made, turns, front}
+use lib.ListN.{length, getD, set, length-append, length-drop, List·getD-append}
+use lib.Seq.{ext-getD, getD-append-add, getD-at, getD-set-same, getD-set-other}
+use Rattle.sequence.specs.Lists.{before, every, some, each, made, turns, front}
 
 pub and-left : (a b : Bool) → a && b ≡ true → a ≡ true
 and-left true b q = refl
@@ -21,6 +22,12 @@ and-left false b q = q
 pub and-right : (a b : Bool) → a && b ≡ true → b ≡ true
 and-right true b q = q
 and-right false b q = absurd (subst T (sym q) tt)
+
+pub never : {A : Type 0} → false ≡ true → A
+never e = absurd (false≢true e)
+
+pub or-none : (a b : Bool) → a || b ≡ false → (a ≡ false) × (b ≡ false)
+or-none a b = or-eq-false-eq-eq-false-and-eq-false a b .0
 
 -- what a test of the code says of the definition that its answer equals
 pub failed : {r t : Bool} → r ≡ t → not r ≡ true → t ≡ false
@@ -48,6 +55,15 @@ before-le f i (suc n) h =
 -- a part of the sum lies within the whole
 pub before-within : (f : ℕ → ℕ) (i n : ℕ) → i < n → before f i + f i ≤ before f n
 before-within f i n h = omega (arith, before-le f (i + 1) n (omega arith), before-more f i)
+
+-- two places that are one place are of one part, at one index
+pub before-apart : (f : ℕ → ℕ) (i j t s : ℕ) → t < f i → s < f j → before f i + t ≡ before f j + s → (i ≡ j) × (t ≡ s)
+before-apart f i j t s ht hs e = go (decLt i j) (decLt j i)
+  where
+    go : Dec (i < j) → Dec (j < i) → (i ≡ j) × (t ≡ s)
+    go (yes l) d = absurd (omega (arith, e, before-within f i j l))
+    go (no l) (yes d) = absurd (omega (arith, e, before-within f j i d))
+    go (no l) (no d) = let q : i ≡ j = omega arith in (q, omega (arith, e, ap (before f) q))
 
 pub before-same : (f g : ℕ → ℕ) (n : ℕ) → ((i : ℕ) → i < n → f i ≡ g i) → before f n ≡ before g n
 unfolding before
@@ -89,6 +105,18 @@ every-at test zero e i h = absurd (not-suc-le-zero h)
 every-at test (suc n) e i h =
     ⊎-elim (λ q. rw q (and-right (every test n) (test n) e)) (λ l. every-at test n (and-left (every test n) (test n) e) i l) (eq-or-lt-of-le (le-of-suc-le-suc h))
 
+pub every-of : (test : ℕ → Bool) (n : ℕ) → ((i : ℕ) → i < n → test i ≡ true) → every test n ≡ true
+unfolding every
+every-of test zero h = refl
+every-of test (suc n) h = rw (every-of test n (λ i l. h i (omega arith)), h n (omega arith))
+
+-- one that passes
+pub some-holds : (test : ℕ → Bool) (i n : ℕ) → i < n → test i ≡ true → some test n ≡ true
+unfolding some
+some-holds test i zero h b = absurd (not-suc-le-zero h)
+some-holds test i (suc n) h b =
+    ⊎-elim (λ e. rw (← e, b, or-true)) (λ l. rw (some-holds test i n l b)) (eq-or-lt-of-le (le-of-suc-le-suc h))
+
 -- ---- what turns append
 
 module _ {A : Type 0} where
@@ -114,6 +142,31 @@ module _ {A : Type 0} where
   unfolding each
   each-add f a zero = let z : a + 0 ≡ a = omega arith in rw (z, append-nil)
   each-add f a (suc c) = let z : a + suc c ≡ suc (a + c) = omega arith in rw (z, each-add f a c, append-assoc)
+
+  -- runs of words, one after the other: how many there are, and word t of run k
+  pub each-long : (f : ℕ → List A) (g : ℕ → ℕ) (n : ℕ) → ((i : ℕ) → i < n → length (f i) ≡ g i) → length (each n f) ≡ before g n
+  unfolding each before
+  each-long f g zero h = refl
+  each-long f g (suc n) h =
+      length-append (each n f) (f n) ∙ rw (each-long f g n (λ i l. h i (omega arith)), h n (omega arith))
+
+  pub each-at : (f : ℕ → List A) (g : ℕ → ℕ) (n : ℕ) → ((i : ℕ) → i < n → length (f i) ≡ g i) → (k t : ℕ) (d : A) → k < n → t < g k
+      → getD (each n f) (before g k + t) d ≡ getD (f k) t d
+  unfolding each
+  each-at f g zero h k t d l m = absurd (not-suc-le-zero l)
+  each-at f g (suc n) h k t d l m = go (ℕ-discrete k n) (each-at f g n (λ i p. h i (omega arith)) k t d)
+    where
+      long : length (each n f) ≡ before g n
+      long = each-long f g n (λ i q. h i (omega arith))
+
+      go : Dec (k ≡ n) → (k < n → t < g k → getD (each n f) (before g k + t) d ≡ getD (f k) t d) → getD (each n f ++ f n) (before g k + t) d ≡ getD (f k) t d
+      go (yes q) ih =
+          ap (λ (x : ℕ). getD (each n f ++ f n) (x + t) d) (ap (before g) q ∙ sym long)
+          ∙ getD-append-add (each n f) (f n) t d
+          ∙ ap (λ (x : ℕ). getD (f x) t d) (sym q)
+      go (no q) ih =
+          List·getD-append (each n f) (f n) d (before g k + t) (omega (arith, long, before-within g k n (omega arith)))
+          ∙ ih (omega arith) m
 
   -- turns taken by two
   pub each-pairs : (f : ℕ → List A) (m : ℕ) → each (2 * m) f ≡ each m (λ e. f (2 * e) ++ f (2 * e + 1))
@@ -173,6 +226,18 @@ module _ {A : Type 0} where
   unfolding made
   made-same f g zero h = refl
   made-same f g (suc n) h = rw (made-same f g n (λ i l. h i (omega arith)), h n (omega arith))
+
+  -- the words of a list, made one by one, are the list
+  pub made-self : (xs : List A) (d : A) → made (λ i. getD xs i d) (length xs) ≡ xs
+  made-self xs d =
+      ext-getD d (made (λ i. getD xs i d) (length xs)) xs (made-length (λ i. getD xs i d) (length xs))
+      (λ i l. made-at (λ i. getD xs i d) (length xs) i d (rw made-length at l))
+
+  -- a number of an element by its place
+  pub map-at : (f : A → ℕ) (l : List A) (k : ℕ) (d : A) → k < length l → getD (map f l) k 0 ≡ f (getD l k d)
+  map-at f [] k d h = absurd (not-suc-le-zero h)
+  map-at f (x ∷ l) zero d h = refl
+  map-at f (x ∷ l) (suc k) d h = map-at f l k d (le-of-suc-le-suc h)
 
   pub front-length : (new old : List A) → length new ≤ length old → length (front new old) ≡ length old
   unfolding front

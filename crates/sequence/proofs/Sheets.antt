@@ -1,20 +1,20 @@
 -- The laws of `Puts`, which every loop that puts triplets cites, and what a counting and a writing pass leave.
 -- Main results: `then`, `more`, `room-kept`, `lays-once`, `lays-short`, `lays-twice`. Assumes nothing.
 use mathlib.Core.Path.{_≡_, refl, sym, ap, _∙_}
-use Prim.Native.Nat.{ℕ, zero, suc, _+_, _≤_, _<_, zero-le, min}
+use Prim.Native.Nat.{ℕ, _+_, _≤_, _<_, zero-le}
 use native.Mathlib.Numerals.{add-one}
-use native.Mathlib.Nat.{le-antisymm, le-refl, le-trans, le-of-eq, add-suc, suc-add, zero-add}
+use native.Mathlib.Nat.{le-antisymm, le-of-eq, add-suc, suc-add, zero-add}
 use native.Mathlib.Omega.{arith}
-use mathlib.Core.List.{List, [], _∷_, _++_, map}
-use mathlib.Core.Bool.{true, false, cond}
-use lib.ListN.{length, drop, length-map}
-use lib.Dec.{ltb, eqb}
+use mathlib.Core.List.{List, [], _∷_, _++_}
+use mathlib.Core.Bool.{true, false}
+use lib.ListN.{length, length-map}
+use lib.Dec.{ltb}
 use lib.Ieee.{Float}
 use lib.Seq.{sets, sets-eq}
 use borrow.Author.Tests.{lt-ltb, le-ltb, ne-eqb}
 use Rattle.sequence.specs.declared.Item.{Item}
-use Rattle.sequence.specs.Lists.{each, when, front}
-use Rattle.sequence.specs.Sheets.{Triplet, emit, rowsOf, colsOf, valuesOf, Sheets, sheets, put1, puts, Puts, Room, Laid, laid, lays, laysIf, room}
+use Rattle.sequence.specs.Lists.{each, front}
+use Rattle.sequence.specs.Sheets.{Triplet, emit, rowsOf, colsOf, valuesOf, Sheets, sheets, put1, puts, Puts, Room, laid, lays, laysIf, room}
 use Rattle.sequence.proofs.Lists.{each-more}
 
 puts-append : (l : ℕ) (S : Sheets) (a b : List Triplet) → puts l S (a ++ b) ≡ puts l (puts l S a) b

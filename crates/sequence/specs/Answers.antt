@@ -1,7 +1,7 @@
 -- Answers by number: an ordered list of tests, of which the first that holds gives the number.
 -- A call's answer is its number, its count and what its sheet holds afterwards. Assumes nothing.
 use Prim.Native.Nat.{ℕ}
-use mathlib.Core.Bool.{Bool, true, false, cond, not, _&&_}
+use mathlib.Core.Bool.{Bool, true, cond, not, _&&_}
 use mathlib.Core.List.{List, [], _∷_}
 use lib.ListN.{length}
 use lib.Dec.{eqb, ltb}

@@ -2,7 +2,7 @@
 use mathlib.Core.Path.{_≡_}
 use mathlib.Core.List.{List}
 use Prim.Native.Nat.{ℕ, _+_, _≤_, _<_}
-use lib.ListN.{length, getD}
+use lib.ListN.{getD}
 
 -- of the indices from a to c - 1, z is the first whose key is j, and c where none is
 pub record First (key : ℕ → ℕ) (c j a z : ℕ) : Type 0 where

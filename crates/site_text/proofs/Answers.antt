@@ -13,13 +13,14 @@ use Rattle.sequence.specs.Answers.{Test}
 use Rattle.sequence.specs.Sheets.{room}
 use Rattle.words.specs.Words.{joined}
 use Rattle.network.specs.Layout.{countsOf, size}
+use Rattle.solution.specs.NetworkB.{wiringB, readingsB, sheetB}
 use Rattle.kkt.specs.Slots.Rule.{firstPlace}
 use Rattle.change_table.specs.Table.{isKind, fieldOf}
 use Rattle.job_book.specs.Book.{Change, kindOf, indexOf, given, Words, words, line, Outcome, outcome, matrixOf, changed, step}
 use Rattle.job_book.specs.Run.{triplets}
 use Rattle.job_book.proofs.Steps.{Taken, taken}
 use Rattle.job_book.proofs.Sheets.{list-left}
-use Rattle.site_text.specs.Text.{wiringB, readingsB, solutionB, givenB, firstLine, tripletLine, namedB, answered}
+use Rattle.site_text.specs.Text.{givenB, firstLine, tripletLine, namedB, answered}
 use Rattle.site_text.specs.Writing.{Wrote}
 use Rattle.site_text.specs.Answers.{Answered}
 use Rattle.site_text.proofs.Writing.{then, told}
@@ -28,7 +29,7 @@ abbrev none : Words → Change → List Test
 none W h = []
 
 -- the call on the code's lists
-pub answered-b : (R C : List ℕ) (X : List Float) (h : Change) {n k : ℕ} {w : List ℕ} {s r r₁ : List Float} {R₁ C₁ : List ℕ} {X₁ : List Float} → w ≡ wiringB → r ≡ readingsB → s ≡ solutionB
+pub answered-b : (R C : List ℕ) (X : List Float) (h : Change) {n k : ℕ} {w : List ℕ} {s r r₁ : List Float} {R₁ C₁ : List ℕ} {X₁ : List Float} → w ≡ wiringB → r ≡ readingsB → s ≡ sheetB
     → outcome n k (words r₁ R₁ C₁ X₁) ≡ step (given w [] [] s) firstPlace none (words r R C X) h → Answered n k R₁ C₁ X₁ (step givenB firstPlace none (words readingsB R C X) h)
 answered-b R C X h {s = s} {r = r} {r₁ = r₁} p q o e =
     record {

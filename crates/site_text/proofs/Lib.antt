@@ -1,5 +1,4 @@
 -- The laws of the text. Assumes nothing.
-pub mod Bench
 pub mod Writing
 pub mod Named
 pub mod Network

@@ -11,13 +11,14 @@ use Rattle.network.specs.Layout.{countsOf, size, ReadingsLaid, partStart, wire,
 use Rattle.network.specs.Numbers.{few, lengthsHold, sumsHold, sizesHold, partHolds, flowTermsHold, generationTermsHold, termsHold, wiringHolds, inRank, fieldHolds, allWithin, readingsHold, Wired, Accepted}
 use Rattle.network.proofs.Tests.{accepted}
 use Rattle.solution.specs.Sheet.{pieces}
+use Rattle.solution.specs.NetworkB.{wiringB, readingsB}
 use Rattle.solution_check.proofs.Own.{few-pieces}
 use Rattle.kkt_index.specs.declared.KktIdx.{KktIdx}
 use Rattle.kkt_index.specs.Index.{linearRows, startIn, Narrow, Indexed}
 use Rattle.kkt_index.proofs.Starts.{narrow, few-rows}
 use Rattle.change_table.specs.Table.{fieldOf, cellsOf, cellsAt, namedCells}
 use Rattle.job_book.specs.Book.{networkOf}
-use Rattle.site_text.specs.Text.{wiringB, readingsB, givenB}
+use Rattle.site_text.specs.Text.{givenB}
 use Rattle.site_text.proofs.Named.{named-cells}
 
 pub accepted-b : Accepted (networkOf givenB readingsB) (countsOf wiringB)

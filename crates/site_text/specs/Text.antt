@@ -1,44 +1,25 @@
--- 01's "Bench network": network B with its sheet, and what the program `sitechange` prints for the bytes that it reads.
--- Main definitions: `givenB`, `readingsB`, `printed`. Assumes nothing.
+-- 01's "Bench network": what the program `sitechange` prints for the bytes that it reads, from network B on.
+-- Main definitions: `givenB`, `printed`. Assumes nothing.
 use Prim.Native.Nat.{ℕ, zero, suc, _/_}
-use mathlib.Core.Bool.{Bool, cond}
+use mathlib.Core.Bool.{cond}
 use mathlib.Core.List.{List, [], _∷_, _++_}
 use lib.ListN.{length}
 use lib.Dec.{eqb, ltb}
-use lib.Ieee.{Float, binary64, toBits, neg, div}
+use lib.Ieee.{binary64, toBits}
 use Rattle.float64.specs.Values.{whole}
 use Rattle.io.specs.Digits.{digits}
 use Rattle.sequence.specs.Lists.{made, when}
 use Rattle.sequence.specs.Sheets.{Triplet}
 use Rattle.words.specs.Words.{wordAt, joined}
+use Rattle.solution.specs.NetworkB.{wiringB, readingsB, sheetB}
 use Rattle.kkt.specs.Slots.Rule.{firstPlace}
 use Rattle.change_table.specs.Table.{among, namedCells}
 use Rattle.job_book.specs.Book.{Change, change, kindOf, indexOf, Given, given, Words, words, Outcome, countsIn, matrixOf, changed, step}
 
--- ---- network B
-
--- "n 2, m 1, k 1, R 1 (bus 0), no S, q, T; allow_shed 0, objective 1; branch 0 to 1, generator at 0, all flags 1"
-abbrev pub wiringB : List ℕ
-wiringB = 2 ∷ 1 ∷ 1 ∷ 1 ∷ 0 ∷ 0 ∷ 0 ∷ 0 ∷ 1 ∷ 0 ∷ 1 ∷ 0 ∷ 0 ∷ 0 ∷ 1 ∷ 1 ∷ 1 ∷ []
-
--- "base 100, b -4, sw 1, shift and offset 0, fmax 4, angles -0.5 and 0.5, gmin 0, gmax 2, cq 1, cl and cc 0, c_shed 3 3, demand 0 1, shunt and HVDC 0"
-abbrev half : Float
-half = div binary64 (whole 1) (whole 2)
-
-abbrev pub readingsB : List Float
-readingsB =
-    whole 100 ∷ neg (whole 4) ∷ whole 1 ∷ whole 0 ∷ whole 0 ∷ whole 4 ∷ neg half ∷ half ∷ whole 0 ∷ whole 2 ∷ whole 1 ∷ whole 0 ∷ whole 0 ∷ whole 3 ∷ whole 3 ∷ whole 0 ∷ whole 1 ∷ whole 0 ∷ whole 0 ∷ whole 0 ∷ whole 0 ∷ []
-
--- "va 0 -0.25, pg 1, f 1, psh 0 0, nu_bal 2 2, mu_lb 1 1, objective 1, all else 0"
-abbrev quarter : Float
-quarter = div binary64 (whole 1) (whole 4)
-
-abbrev pub solutionB : List Float
-solutionB =
-    whole 0 ∷ neg quarter ∷ whole 1 ∷ whole 1 ∷ whole 0 ∷ whole 0 ∷ whole 2 ∷ whole 2 ∷ whole 0 ∷ whole 0 ∷ whole 0 ∷ whole 0 ∷ whole 0 ∷ whole 0 ∷ whole 1 ∷ whole 1 ∷ whole 0 ∷ whole 0 ∷ whole 1 ∷ []
+-- ---- network B, as a run starts with it
 
 abbrev pub givenB : Given
-givenB = given wiringB [] [] solutionB
+givenB = given wiringB [] [] sheetB
 
 -- sheets for the most triplets that B's list can have, 26m + 10n + 9k + 2R
 abbrev pub wordsB : Words

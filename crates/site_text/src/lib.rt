@@ -20,13 +20,14 @@ ghost use Rattle.sequence.specs.Sheets.{triplet};
 ghost use Rattle.words.specs.Words.{joined};
 ghost use Rattle.network.specs.Layout.{countsOf, size};
 ghost use Rattle.network.specs.Numbers.{Wired};
+ghost use Rattle.solution.specs.NetworkB.{wiringB, readingsB, sheetB};
 ghost use Rattle.kkt_index.specs.Index.{startIn, Narrow};
 ghost use Rattle.kkt.specs.Slots.Rule.{firstPlace};
 ghost use Rattle.change_table.specs.Table.{isKind, fieldOf, cellsOf, cellsAt, namedCells};
 ghost use Rattle.job_book.specs.Book.{change, words, step};
 ghost use Rattle.job_book.specs.Run.{triplets};
 ghost use Rattle.site_text.specs.Answers.{Answered};
-ghost use Rattle.site_text.specs.Text.{decimalOf, firstLine, tripletLine, tripletsIn, wiringB, readingsB, solutionB, givenB, answered, printed};
+ghost use Rattle.site_text.specs.Text.{decimalOf, firstLine, tripletLine, tripletsIn, givenB, answered, printed};
 ghost use Rattle.site_text.specs.Writing.{Wrote};
 
 // One byte at a place of the buffer. The next place is answered, here and below.
@@ -149,7 +150,7 @@ fn readings_b() -> [f64; 21]
 }
 
 fn solution_b() -> [f64; 19]
-    ensures { λ r. ⌜ r ≡ solutionB ⌝ }
+    ensures { λ r. ⌜ r ≡ sheetB ⌝ }
 {
     [
         0.0,

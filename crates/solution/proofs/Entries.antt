@@ -6,7 +6,6 @@ use mathlib.Core.Bool.{Bool, true, false, cond}
 use mathlib.Core.List.{List}
 use lib.Dec.{eqb}
 use lib.ListN.{getD}
-use Rattle.sequence.specs.Layout.{total, start}
 use Rattle.sequence.proofs.Blocks.{inside, one-place}
 use Rattle.network.specs.declared.Counts.{Counts}
 use Rattle.solution.specs.declared.Entry.{Entry}
@@ -16,7 +15,7 @@ use Rattle.sequence.proofs.Lists.{before-more}
 use Rattle.network.specs.Layout.{segmentsAt}
 use Rattle.solution.specs.Sheet.{piece, entries, rank, size, sizes, sheetLength, entryStart}
 
-entry-size : (c : Counts) (p : ℕ) (e : Entry) → getD (sizes c p) (rank e) 0 ≡ size c p e
+pub entry-size : (c : Counts) (p : ℕ) (e : Entry) → getD (sizes c p) (rank e) 0 ≡ size c p e
 entry-size c p Va = refl
 entry-size c p Pg = refl
 entry-size c p Flow = refl
@@ -37,7 +36,7 @@ entry-size c p LinearValue = refl
 entry-size c p Objective = refl
 
 -- the entry of a rank
-entry-of-rank : (e : Entry) → getD entries (rank e) Va ≡ e
+pub entry-of-rank : (e : Entry) → getD entries (rank e) Va ≡ e
 entry-of-rank Va = refl
 entry-of-rank Pg = refl
 entry-of-rank Flow = refl
@@ -56,6 +55,26 @@ entry-of-rank SegmentDual = refl
 entry-of-rank LinearDual = refl
 entry-of-rank LinearValue = refl
 entry-of-rank Objective = refl
+
+pub rank-below : (e : Entry) → rank e < 18
+rank-below Va = omega arith
+rank-below Pg = omega arith
+rank-below Flow = omega arith
+rank-below Psh = omega arith
+rank-below NuBal = omega arith
+rank-below LamUb = omega arith
+rank-below LamLb = omega arith
+rank-below RhoUb = omega arith
+rank-below RhoLb = omega arith
+rank-below MuUb = omega arith
+rank-below MuLb = omega arith
+rank-below GammaUb = omega arith
+rank-below GammaLb = omega arith
+rank-below Epigraph = omega arith
+rank-below SegmentDual = omega arith
+rank-below LinearDual = omega arith
+rank-below LinearValue = omega arith
+rank-below Objective = omega arith
 
 pub entry-inside : (c : Counts) (p : ℕ) (e : Entry) → entryStart c p e + size c p e ≤ sheetLength c p
 unfolding entryStart

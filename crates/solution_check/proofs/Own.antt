@@ -1,6 +1,6 @@
 -- A call's own tests beside the network's: a size that is only asked where the network's hold, and values that are tested after all else.
 -- Main results: `own-size`, `later-stands`, `later-passes`, `solved`, `long-few`. Assumes nothing.
-use mathlib.Core.Path.{_≡_, refl, sym, subst, _∙_}
+use mathlib.Core.Path.{_≡_, refl, sym, subst}
 use mathlib.Core.Bool.{Bool, true, false, cond, not, _&&_}
 use mathlib.Core.List.{List, [], _∷_}
 use Prim.Native.Nat.{ℕ, _≤_}
@@ -15,8 +15,7 @@ use Rattle.network.specs.declared.Counts.{Counts}
 use Rattle.network.specs.Layout.{segmentsAt, countsOf}
 use Rattle.network.specs.Numbers.{Network, sizesHold, wiringHolds, readingsHold, networkTests, Accepted}
 use Rattle.network.proofs.Tests.{sized-few}
-use Rattle.model.proofs.Calls.{own-sizes}
-use Rattle.solution.specs.Sheet.{piece, pieceRank, pieces, sheetLength, SheetLaid}
+use Rattle.solution.specs.Sheet.{piece, pieceRank, pieces, sheetLength}
 use Rattle.solution_check.specs.Tests.{counted, piecesOf, solutionLong, Solved}
 
 -- no test both holds and fails

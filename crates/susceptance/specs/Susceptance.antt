@@ -1,10 +1,10 @@
 -- 01's `susceptance_coo`: the susceptance matrix as triplets, by row, then column.
 -- "walks branches in order with w = -b times sw, skips w = 0, and at cells (i,i), (j,j), (i,j), (j,i) adds w, w, -w, -w in that order". Assumes nothing.
 use Prim.Native.Nat.{ℕ}
-use mathlib.Core.Bool.{Bool, true, false, cond, not, _&&_, _||_}
+use mathlib.Core.Bool.{Bool, cond, not, _&&_, _||_}
 use mathlib.Core.List.{List, [], _∷_}
 use lib.Dec.{eqb}
-use lib.Ieee.{Float, binary64, add, sub, mul, neg, eq}
+use lib.Ieee.{Float, binary64, mul, neg, eq}
 use Rattle.float64.specs.Values.{nought, addAt, subAt}
 use Rattle.sequence.specs.Lists.{each, when, turns, some}
 use Rattle.sequence.specs.Sheets.{Triplet, triplet}

@@ -9,7 +9,7 @@ use lib.ListN.{length, getD, set, take, length-append}
 use lib.Seq.{sets, take-suc, length-take-le}
 use Rattle.sequence.specs.Lists.{front}
 use Rattle.sequence.proofs.Fronts.{front-more}
-use Rattle.words.specs.Words.{bytesOf, joined, wordBytes, doubleBytes}
+use Rattle.words.specs.Words.{bytesOf, joined, doubleBytes}
 
 -- ---- the bytes of each element
 
@@ -39,10 +39,7 @@ pub bytes-length : (k v : ℕ) → length (bytesOf k v) ≡ k
 bytes-length zero v = refl
 bytes-length (suc k) v = ap suc (bytes-length k (v / 256))
 
--- four bytes a word, and eight a double
-pub wordBytes-length : (ws : List ℕ) → length (wordBytes ws) ≡ 4 * length ws
-wordBytes-length ws = joined-length (bytesOf 4) 4 (bytes-length 4) ws
-
+-- eight bytes a double
 pub doubleBytes-length : (xs : List Float) → length (doubleBytes xs) ≡ 8 * length xs
 doubleBytes-length xs = joined-length _ 8 (λ x. bytes-length 8 (toBits binary64 x)) xs
 

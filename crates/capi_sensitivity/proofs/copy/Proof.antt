@@ -1,22 +1,15 @@
 -- `capi_sensitivity::copy` meets its contract, word by word. Assumes nothing.
-use Prim.Native.Nat.{ℕ, _+_, _-_, _≤_}
-use mathlib.Core.Path.{_≡_, refl, sym, ap, _∙_}
+use Prim.Native.Nat.{_-_, _≤_}
+use mathlib.Core.Path.{_≡_, refl, ap, _∙_}
 use mathlib.Core.List.{List}
 use native.Mathlib.Omega.{arith}
 use lib.ListN.{length, getD}
-use lib.Seq.{ext-getD}
 use lib.Ieee.{Float, nan}
-use Rattle.sequence.specs.Lists.{made, front}
-use Rattle.sequence.proofs.Lists.{made-length, made-at}
+use Rattle.sequence.specs.Lists.{front}
+use Rattle.sequence.proofs.Lists.{made-self}
 use Rattle.sequence.proofs.Fronts.{Fronted, none, more}
 use Rattle.capi_sensitivity.proofs.copy.Statement.{statement}
 use Rattle.capi_sensitivity.proofs.copy.Tie as tie
-
--- the words of a list, made one by one, are the list
-made-words : (xs : List Float) → made (λ i. getD xs i nan) (length xs) ≡ xs
-made-words xs =
-    ext-getD nan (made (λ i. getD xs i nan) (length xs)) xs (made-length (λ i. getD xs i nan) (length xs))
-    (λ i l. made-at (λ i. getD xs i nan) (length xs) i nan (rw made-length at l))
 
 abbrev Inv-loop : tie.InvT-loop
 Inv-loop part sheet₀ i₀ n sheet i = Fronted (λ k. getD part k nan) i sheet₀ sheet × (i ≤ length part)
@@ -36,7 +29,7 @@ returns c =
     let part = c .before .before .args .part .now in
     let e : l .i ≡ length part = omega arith in
     let p = rw e at (l .inv .0 .is) in
-    p ∙ ap (λ (xs : List Float). front xs (c .before .before .args .sheet .now)) (made-words part)
+    p ∙ ap (λ (xs : List Float). front xs (c .before .before .args .sheet .now)) (made-self part nan)
 
 pub copy-spec : {M : Type 1} → statement M
 copy-spec =

@@ -3,8 +3,9 @@ use mathlib.Core.Path.{_≡_, refl, _∙_}
 use Prim.Native.Nat.{_+_, _*_, _-_, _/_, _≤_}
 use native.Mathlib.Omega.{arith}
 use lib.ListN.{length}
+use Rattle.sequence.proofs.Lists.{never}
 use Rattle.contraction.specs.Contraction.{Gathers}
-use Rattle.contraction.proofs.Gathers.{none, never}
+use Rattle.contraction.proofs.Gathers.{none}
 use Rattle.contraction.proofs.gather.Statement.{statement}
 use Rattle.contraction.proofs.gather.Tie as tie
 

@@ -3,8 +3,8 @@ use mathlib.Core.Path.{_≡_, refl}
 use Prim.Native.Nat.{_-_, _≤_}
 use native.Mathlib.Omega.{arith}
 use lib.ListN.{length}
+use Rattle.sequence.proofs.Lists.{never}
 use Rattle.contraction.specs.Contraction.{Gathers}
-use Rattle.contraction.proofs.Gathers.{never}
 use Rattle.contraction.proofs.gather_rest.Statement.{statement}
 use Rattle.contraction.proofs.gather_rest.Tie as tie
 

@@ -1,6 +1,5 @@
 -- `job_book::change_number` meets its contract, test by test. Assumes nothing.
 use mathlib.Core.Path.{sym, _∙_}
-use native.Mathlib.Omega.{arith}
 use borrow.Author.Needs.{needs}
 use Rattle.job_book.proofs.Own.{value-refused, kind-refused, index-refused, own-passed}
 use Rattle.job_book.proofs.change_number.Statement.{statement}

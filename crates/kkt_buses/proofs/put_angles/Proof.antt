@@ -1,5 +1,5 @@
 -- `kkt_buses::put_angles` meets its contract: a bus's column more each turn. Assumes nothing.
-use Prim.Native.Nat.{_+_, _*_, _-_, _≤_, _<_}
+use Prim.Native.Nat.{_+_, _*_, _-_, _≤_}
 use mathlib.Core.Path.{_≡_, refl}
 use native.Mathlib.Omega.{arith}
 use Rattle.sequence.specs.Lists.{each}

@@ -11,10 +11,10 @@ use Rattle.model.proofs.Runs.{segments-none}
 use Rattle.solution.specs.Sheet.{solved, pieceRank}
 use Rattle.solution.proofs.Entries.{piece-more}
 use Rattle.kkt_index.specs.Index.{startIn}
+use Rattle.kkt_index.proofs.Segments.{start-more}
 use Rattle.kkt.specs.Matrix.{emitted}
 use Rattle.kkt.specs.Walks.{generatorSlots}
 use Rattle.kkt.proofs.Emitted.{puts-begin, puts-more, puts-done, puts-then}
-use Rattle.kkt_generators.proofs.Segments.{start-more}
 use Rattle.kkt_generators.proofs.put_generators.Statement.{statement}
 use Rattle.kkt_generators.proofs.put_generators.Tie as tie
 
@@ -63,7 +63,7 @@ add-start c =
     let w = c .before .before .before .before .before .before .before .before .before .before .before .before .before .before .before .before .before .before .before .before .before in
     let l = w .before .before in
     let s = l .before .before .before .before .before .before .before in
-    omega (arith, start-more (s .pre .0 .wired) (l .loop .j) (omega arith) (l .loop .inv .7) (w .word .ensures .0) .1)
+    omega (arith, start-more (s .pre .0 .wired) (l .loop .j) (omega arith) (l .loop .inv .7) (w .word .ensures .0) .1 .1)
 
 loop-again : tie.Need-loop-again Inv-loop μ-loop
 unfolding pieceRank
@@ -76,7 +76,7 @@ loop-again c =
     let i = l .loop .inv in
     let r = piece-more _ _ (l .loop .j) (i .5) (i .6) (w .word .ensures .0) (c .next-piece .ensures) in
     let m = start-more (s .pre .0 .wired) (l .loop .j) (omega arith) (i .7) (w .word .ensures .0) in
-    (puts-more _ _ _ _ (l .loop .j) (i .0) (puts-then _ _ _ _ _ (o .put-own .ensures .0) (p .put-segments .ensures .0)), omega (arith, i, o .put-own .ensures .1, p .put-segments .ensures .1), omega arith, i .3, i .4, r .0, r .1, m .0, m .1)
+    (puts-more _ _ _ _ (l .loop .j) (i .0) (puts-then _ _ _ _ _ (o .put-own .ensures .0) (p .put-segments .ensures .0)), omega (arith, i, o .put-own .ensures .1, p .put-segments .ensures .1), omega arith, i .3, i .4, r .0, r .1, m .0, m .1 .1)
 
 returns : tie.Need-returns Inv-loop μ-loop
 returns c = (puts-done _ _ _ _ (omega arith) (omega arith) (c .before .loop .inv .0), omega arith)

@@ -8,10 +8,11 @@ use Rattle.network.specs.Layout.{reading}
 use Rattle.model.proofs.Runs.{segments-inside}
 use Rattle.solution.specs.Sheet.{solved}
 use Rattle.kkt_index.specs.Index.{startIn}
+use Rattle.kkt_index.proofs.Segments.{segment-inside}
 use Rattle.kkt.specs.Matrix.{emitted}
 use Rattle.kkt.specs.Walks.{segmentSlots}
 use Rattle.kkt.proofs.Emitted.{puts-begin, puts-more, puts-done, puts-three}
-use Rattle.kkt_generators.proofs.Segments.{segment-inside, segment-short}
+use Rattle.kkt_generators.proofs.Segments.{segment-short}
 use Rattle.kkt_generators.proofs.put_segments.Statement.{statement}
 use Rattle.kkt_generators.proofs.put_segments.Tie as tie
 

@@ -1,11 +1,11 @@
 -- `kkt_index::linear_rows` meets its contract. The loop's invariant: the rows of the linear rows passed. Assumes nothing.
-use mathlib.Core.Path.{_≡_, refl, ap, _∙_}
-use Prim.Native.Nat.{ℕ, _+_, _*_, _-_, _≤_, _<_}
+use mathlib.Core.Path.{_≡_, refl}
+use Prim.Native.Nat.{_*_, _-_, _≤_}
 use native.Mathlib.Omega.{arith}
 use borrow.Author.Needs.{needs}
 use Rattle.sequence.specs.Lists.{before}
 use Rattle.sequence.proofs.Lists.{before-none, before-more}
-use Rattle.kkt_index.specs.Index.{rowsOf, rowsAt, linearStart}
+use Rattle.kkt_index.specs.Index.{rowsAt, linearStart}
 use Rattle.kkt_index.proofs.Blocks.{rows-few}
 use Rattle.kkt_index.proofs.linear_rows.Statement.{statement}
 use Rattle.kkt_index.proofs.linear_rows.Tie as tie

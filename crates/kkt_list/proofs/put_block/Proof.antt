@@ -2,7 +2,7 @@
 use mathlib.Core.Path.{sym, refl, _∙_}
 use native.Mathlib.Omega.{arith}
 use borrow.Author.Needs.{needs}
-use Rattle.kkt.specs.declared.Work.the-variants.{Angles, Dispatch, Short, Epigraph, SegmentDuals, Balances, Rows}
+use Rattle.kkt.specs.declared.Work.the-variants.{Angles, Dispatch, Epigraph, SegmentDuals, Balances, Rows}
 use Rattle.kkt_index.specs.Index.{linearStart}
 use Rattle.kkt.specs.Slots.{columns, siteOf}
 use Rattle.kkt.specs.Slots.Rule.{firstPlace}

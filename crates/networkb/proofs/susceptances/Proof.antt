@@ -1,8 +1,5 @@
 -- `networkb::susceptances` is safe and ends. Assumes nothing.
 use Prim.Native.Nat.{_-_, _≤_}
-use native.Mathlib.Omega.{arith}
-use mathlib.Core.Path.{_≡_}
-use lib.ListN.{length}
 use borrow.Author.Needs.{needs}
 use Rattle.networkb.proofs.susceptances.Statement.{statement}
 use Rattle.networkb.proofs.susceptances.Tie as tie

@@ -11,9 +11,9 @@ use lib.ListN.{length}
 use Rattle.sequence.specs.Layout.{start}
 use Rattle.sequence.specs.Lists.{front}
 use Rattle.solution.specs.Sheet.{sizes}
+use Rattle.snapping.proofs.Words.{entry-inside, entry-small, entry-next}
 use Rattle.sens_snap.proofs.Steps.{next-fits, next-less}
 use Rattle.sens_snap.proofs.Stores.{Runs, no-run, run-front, fronted}
-use Rattle.sens_snap.proofs.Words.{entry-inside, entry-small, entry-next}
 use Rattle.opf_readback.proofs.Entries.{entryWords, entry-long, sheet-is, pieces-few}
 use Rattle.opf_readback.proofs.read_into.Statement.{statement}
 use Rattle.opf_readback.proofs.read_into.Tie as tie

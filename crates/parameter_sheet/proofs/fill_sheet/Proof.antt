@@ -1,6 +1,6 @@
 -- `parameter_sheet::fill_sheet` meets its contract: a column more each turn, through the part that begins at its place. Assumes nothing.
-use Prim.Native.Nat.{ℕ, _+_, _*_, _-_, _≤_, _<_}
-use mathlib.Core.Path.{_≡_, refl, sym, ap, _∙_}
+use Prim.Native.Nat.{ℕ, _+_, _*_, _-_, _≤_}
+use mathlib.Core.Path.{_≡_, sym, ap, _∙_}
 use mathlib.Core.List.{List}
 use native.Mathlib.Nat.{le-of-eq, le-trans, zero-mul, suc-mul}
 use native.Mathlib.Numerals.{add-one}
@@ -10,9 +10,6 @@ use denote.Ref.{now}
 use lib.Ieee.{Float}
 use borrow.Rule.Slice.PartMut.{putMid, mid-len}
 use lib.ListN.{length, getD}
-use Rattle.network.specs.declared.Counts.{Counts}
-use Rattle.kkt_index.specs.declared.KktIdx.{KktIdx}
-use Rattle.parameter_column.specs.declared.Served.{Served}
 use Rattle.parameter_column.specs.Columns.{columnWords}
 use Rattle.sens_snap.proofs.Stores.{Runs, no-run, run-front, fronted}
 use Rattle.parameter_sheet.specs.Sheet.{jacobian}

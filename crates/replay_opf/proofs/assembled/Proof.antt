@@ -1,3 +1,4 @@
+-- `replay_opf::assembled` ends within its slice. Assumes nothing.
 use borrow.Author.Needs.{needs}
 use Rattle.replay_opf.proofs.assembled.Statement.{statement}
 use Rattle.replay_opf.proofs.assembled.Tie as tie

@@ -1,6 +1,5 @@
 -- `replay_opf::is_zero` ends within its slice. Assumes nothing.
 use Prim.Native.Nat.{_-_, _≤_}
-use native.Mathlib.Omega.{arith}
 use borrow.Author.Needs.{needs}
 use Rattle.replay_opf.proofs.is_zero.Statement.{statement}
 use Rattle.replay_opf.proofs.is_zero.Tie as tie

@@ -1,3 +1,4 @@
+-- `replay_opf::nodal` ends within its slice. Assumes nothing.
 use borrow.Author.Needs.{needs}
 use Rattle.replay_opf.proofs.nodal.Statement.{statement}
 use Rattle.replay_opf.proofs.nodal.Tie as tie

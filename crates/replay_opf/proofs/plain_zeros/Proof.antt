@@ -1,7 +1,6 @@
 -- `replay_opf::plain_zeros` ends within its slice: whole doubles end within the bytes. Assumes nothing.
 use mathlib.Core.Path.{_≡_}
 use Prim.Native.Nat.{_-_, _/_, _≤_, _<_}
-use native.Mathlib.Omega.{arith}
 use borrow.Author.Needs.{needs}
 use lib.ListN.{length}
 use Rattle.replay_opf.proofs.plain_zeros.Statement.{statement}

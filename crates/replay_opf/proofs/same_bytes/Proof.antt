@@ -1,6 +1,5 @@
 -- `replay_opf::same_bytes` ends within its slices. Assumes nothing.
 use Prim.Native.Nat.{_-_, _≤_}
-use native.Mathlib.Omega.{arith}
 use borrow.Author.Needs.{needs}
 use Rattle.replay_opf.proofs.same_bytes.Statement.{statement}
 use Rattle.replay_opf.proofs.same_bytes.Tie as tie

@@ -1,7 +1,5 @@
 -- `sens_dc::lay_kkt` meets its contract: one pass below the list's bound, or the counted way. Assumes nothing.
 use native.Mathlib.Omega.{arith}
-use native.Mathlib.Nat.{le-of-eq}
-use mathlib.Core.Path.{sym}
 use borrow.Author.Needs.{needs}
 use Rattle.sequence.proofs.Sheets.{lays-once}
 use Rattle.kkt.specs.Slots.Rule.{firstPlace}

@@ -1,8 +1,7 @@
 -- `sens_operands::put_counts` meets its contract, word by word. Assumes nothing.
-use Prim.Native.Nat.{_+_, _-_, _≤_}
+use Prim.Native.Nat.{_-_, _≤_}
 use mathlib.Core.Path.{_≡_, refl}
 use native.Mathlib.Omega.{arith}
-use Rattle.float64.specs.Values.{one}
 use Rattle.sequence.proofs.Fronts.{Fronted, none, more}
 use Rattle.sens_operands.proofs.put_counts.Statement.{statement}
 use Rattle.sens_operands.proofs.put_counts.Tie as tie

@@ -2,7 +2,6 @@
 use Prim.Native.Nat.{_+_, _-_, _≤_}
 use mathlib.Core.Path.{_≡_, refl}
 use native.Mathlib.Omega.{arith}
-use Rattle.float64.specs.Values.{one}
 use Rattle.sequence.proofs.Fronts.{Fronted, none, more}
 use Rattle.sens_operands.proofs.put_rows.Statement.{statement}
 use Rattle.sens_operands.proofs.put_rows.Tie as tie

@@ -1,5 +1,5 @@
 -- `sens_operands::put_weights` meets its contract, word by word. Assumes nothing.
-use Prim.Native.Nat.{_+_, _-_, _≤_}
+use Prim.Native.Nat.{_-_, _≤_}
 use mathlib.Core.Path.{_≡_, refl}
 use native.Mathlib.Omega.{arith}
 use Rattle.float64.specs.Values.{one}

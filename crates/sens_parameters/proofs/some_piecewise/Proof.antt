@@ -1,6 +1,6 @@
 -- `sens_parameters::some_piecewise` meets its contract: a generator more each turn. Assumes nothing.
-use Prim.Native.Nat.{ℕ, _-_, _≤_}
-use mathlib.Core.Path.{_≡_, sym, ap, _∙_}
+use Prim.Native.Nat.{_-_, _≤_}
+use mathlib.Core.Path.{_≡_, sym}
 use mathlib.Core.Bool.{false, not}
 use native.Mathlib.Omega.{arith}
 use borrow.Author.Needs.{needs}
@@ -9,9 +9,10 @@ use denote.Ref.{now}
 use lib.Dec.{eqb}
 use lib.ListN.{length, getD}
 use Rattle.sequence.specs.Lists.{some}
+use Rattle.sequence.proofs.Lists.{some-holds}
 use Rattle.network.specs.Layout.{segmentsAt}
 use Rattle.sens_parameters.specs.Calls.{somePiecewise}
-use Rattle.sens_parameters.proofs.Columns.{some-none, some-more, some-holds}
+use Rattle.sens_parameters.proofs.Columns.{some-none, some-more}
 use Rattle.sens_parameters.proofs.some_piecewise.Statement.{statement}
 use Rattle.sens_parameters.proofs.some_piecewise.Tie as tie
 

@@ -9,10 +9,11 @@ use borrow.Author.Needs.{needs}
 use Rattle.sequence.specs.Sheets.{Triplet, room}
 use Rattle.words.specs.Words.{joined}
 use Rattle.network.specs.Layout.{countsOf}
+use Rattle.solution.specs.NetworkB.{wiringB, readingsB}
 use Rattle.kkt.specs.Slots.Rule.{firstPlace}
 use Rattle.change_table.specs.Table.{namedCells}
 use Rattle.job_book.specs.Book.{Change, change, Outcome, words, step}
-use Rattle.site_text.specs.Text.{wiringB, readingsB, givenB, tripletLine, tripletsIn}
+use Rattle.site_text.specs.Text.{givenB, tripletLine, tripletsIn}
 use Rattle.site_text.proofs.Answers.{text-refused, taken-b, text-taken}
 use Rattle.site_text.proofs.put_change.Statement.{statement}
 use Rattle.site_text.proofs.put_change.Tie as tie

@@ -1,6 +1,4 @@
 -- `solution_check::sheet_is_long` meets its contract: where the network's sizes hold, the lengths are compared. Assumes nothing.
-use mathlib.Core.Path.{sym, _∙_}
-use native.Mathlib.Omega.{arith}
 use borrow.Author.Needs.{needs}
 use Rattle.sequence.proofs.Lists.{failed, held}
 use Rattle.network.proofs.Tests.{sized-nine, sized-few, sized-wiring}

@@ -1,8 +1,9 @@
 -- `decoding::decode::take_doubles` meets its contract: a law for each return. Assumes nothing.
 use borrow.Author.Needs.{needs}
 use lib.ListN.{length}
+use Rattle.sequence.proofs.Lists.{never}
 use Rattle.words.specs.Words.{doubleAt}
-use Rattle.decoding.proofs.Decoded.{ragged, long, fitting, held, never}
+use Rattle.decoding.proofs.Decoded.{ragged, long, fitting, held}
 use Rattle.decoding.proofs.decode.take_doubles.Statement.{statement}
 use Rattle.decoding.proofs.decode.take_doubles.Tie as tie
 

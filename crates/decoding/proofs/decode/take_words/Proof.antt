@@ -1,8 +1,9 @@
 -- `decoding::decode::take_words` meets its contract: a law for each return. Assumes nothing.
 use borrow.Author.Needs.{needs}
 use lib.ListN.{length}
+use Rattle.sequence.proofs.Lists.{never}
 use Rattle.words.specs.Words.{wordAt}
-use Rattle.decoding.proofs.Decoded.{ragged, long, fitting, held, never}
+use Rattle.decoding.proofs.Decoded.{ragged, long, fitting, held}
 use Rattle.decoding.proofs.decode.take_words.Statement.{statement}
 use Rattle.decoding.proofs.decode.take_words.Tie as tie
 

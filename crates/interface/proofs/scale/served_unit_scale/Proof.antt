@@ -1,8 +1,8 @@
 -- `interface::scale::served_unit_scale` meets its contract: a law for each return.
 -- Main results: `outside`, `no-room`, `done`. Assumes nothing.
-use mathlib.Core.Path.{_≡_, refl, _∙_}
+use mathlib.Core.Path.{_≡_, _∙_}
 use mathlib.Core.Bool.{Bool, true, false}
-use mathlib.Core.List.{List, [], _∷_}
+use mathlib.Core.List.{List, []}
 use Prim.Native.Nat.{_≤_, _<_}
 use native.Mathlib.Omega.{arith}
 use lib.ListN.{length, set}
@@ -10,21 +10,15 @@ use lib.Ieee.{Float}
 use borrow.Author.Needs.{needs}
 use borrow.Author.Tests.{lt-ltb, le-ltb}
 use Rattle.float64.specs.Values.{baseLow, baseHigh, inRange}
-use Rattle.sequence.specs.Lists.{front}
 use Rattle.sequence.specs.Answers.{filled}
 use Rattle.sequence.proofs.Lists.{failed, held}
-use Rattle.sequence.proofs.Fronts.{front-more}
 use Rattle.sequence.proofs.Answers.{no-test, passed, holding, fills-refused, fills-done}
+use Rattle.sequence.proofs.Fronts.{one-front}
 use Rattle.interface.specs.declared.Operand.{Operand}
 use Rattle.interface.specs.declared.Parameter.{Parameter}
 use Rattle.interface.specs.Scales.{unitScale, scaleNumber, scaleCall}
 use Rattle.interface.proofs.scale.served_unit_scale.Statement.{statement}
 use Rattle.interface.proofs.scale.served_unit_scale.Tie as tie
-
--- one word stored is a front of one
-one-front : (x : Float) (sheet : List Float) → 1 ≤ length sheet → set sheet 0 x ≡ front (x ∷ []) sheet
-unfolding front
-one-front x sheet h = front-more [] (x ∷ []) sheet 0 refl h
 
 module _ (o : Operand) (p : Parameter) (base : Float) (sheet : List Float) where
   outside : inRange baseLow baseHigh base ≡ false → filled 3 0 sheet ≡ scaleCall o p base sheet

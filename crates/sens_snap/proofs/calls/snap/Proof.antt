@@ -2,7 +2,7 @@
 use mathlib.Core.Path.{sym, _∙_}
 use native.Mathlib.Omega.{arith}
 use borrow.Author.Needs.{needs}
-use Rattle.sens_snap.proofs.Words.{snap-long}
+use Rattle.snapping.proofs.Words.{snap-long}
 use Rattle.sens_snap.proofs.Returns.{sheet-refused, sheet-short, sheet-done}
 use Rattle.sens_snap.proofs.calls.snap.Statement.{statement}
 use Rattle.sens_snap.proofs.calls.snap.Tie as tie

@@ -4,7 +4,7 @@ use mathlib.Core.Path.{sym, ap, _∙_}
 use native.Mathlib.Omega.{arith}
 use borrow.Author.Needs.{needs}
 use Rattle.network.specs.declared.Counts.{Counts}
-use Rattle.sens_snap.proofs.Words.{dual-long}
+use Rattle.snapping.proofs.Words.{dual-long}
 use Rattle.sens_snap.proofs.Returns.{sheet-refused, sheet-short, sheet-done}
 use Rattle.sens_snap.proofs.calls.snap_linear.Statement.{statement}
 use Rattle.sens_snap.proofs.calls.snap_linear.Tie as tie

@@ -7,9 +7,9 @@ use lib.ListN.{length-set}
 use mir.Syntax.{w64}
 use mir.Val.{Fits}
 use Rattle.snapping.specs.Snap.{dualWords}
+use Rattle.snapping.proofs.Words.{dual-long}
 use Rattle.sens_snap.proofs.Steps.{next-fits, next-less}
 use Rattle.sens_snap.proofs.Stores.{Runs, no-run, run-front, fronted, three}
-use Rattle.sens_snap.proofs.Words.{dual-long}
 use Rattle.sens_snap.proofs.duals.snap_linear_into.Statement.{statement}
 use Rattle.sens_snap.proofs.duals.snap_linear_into.Tie as tie
 

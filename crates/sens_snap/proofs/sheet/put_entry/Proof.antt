@@ -5,7 +5,7 @@ use borrow.Author.Needs.{needs}
 use denote.Ref.{now}
 use Rattle.solution.specs.declared.Entry.{Entry}
 use Rattle.solution.specs.Sheet.{size}
-use Rattle.sens_snap.proofs.Words.{of-segment, of-plain}
+use Rattle.snapping.proofs.Words.{of-segment, of-plain}
 use Rattle.sens_snap.proofs.sheet.put_entry.Statement.{statement}
 use Rattle.sens_snap.proofs.sheet.put_entry.Tie as tie
 

@@ -5,10 +5,10 @@ use native.Mathlib.Omega.{arith}
 use Rattle.network.specs.Layout.{reading}
 use Rattle.model.proofs.Runs.{segments-inside}
 use Rattle.solution.specs.Sheet.{solved}
+use Rattle.kkt_index.proofs.Segments.{segment-inside}
 use Rattle.snapping.specs.Expr.{eval}
 use Rattle.snapping.specs.Snap.{segmentDual, segmentWords}
 use Rattle.sens_snap.proofs.Stores.{Stored, none, more}
-use Rattle.sens_snap.proofs.Segments.{segment-inside}
 use Rattle.sens_snap.proofs.sheet.put_generator_duals.Statement.{statement}
 use Rattle.sens_snap.proofs.sheet.put_generator_duals.Tie as tie
 

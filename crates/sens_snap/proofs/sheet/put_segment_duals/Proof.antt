@@ -9,11 +9,11 @@ use Rattle.network.specs.Layout.{segmentStart}
 use Rattle.model.proofs.Runs.{segments-none}
 use Rattle.solution.specs.Sheet.{pieceRank}
 use Rattle.solution.proofs.Entries.{piece-more}
+use Rattle.kkt_index.proofs.Segments.{start-more}
 use Rattle.snapping.specs.Snap.{segmentWords}
+use Rattle.snapping.proofs.Words.{segment-long}
 use Rattle.sens_snap.proofs.Steps.{next-fits, next-less}
 use Rattle.sens_snap.proofs.Stores.{Runs, no-run, run-more}
-use Rattle.sens_snap.proofs.Segments.{start-more}
-use Rattle.sens_snap.proofs.Words.{segment-long}
 use Rattle.sens_snap.proofs.sheet.put_segment_duals.Statement.{statement}
 use Rattle.sens_snap.proofs.sheet.put_segment_duals.Tie as tie
 

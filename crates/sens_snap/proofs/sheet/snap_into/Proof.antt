@@ -10,9 +10,9 @@ use Rattle.sequence.specs.Layout.{start}
 use Rattle.solution.specs.declared.Entry.the-variants.{Va}
 use Rattle.solution.specs.Sheet.{entries, sizes}
 use Rattle.snapping.specs.Snap.{entryWords, snapSheet}
+use Rattle.snapping.proofs.Words.{entry-inside, entry-small, entry-next, entry-long, snap-long}
 use Rattle.sens_snap.proofs.Steps.{next-fits, next-less}
 use Rattle.sens_snap.proofs.Stores.{Runs, no-run, run-front, fronted}
-use Rattle.sens_snap.proofs.Words.{entry-inside, entry-small, entry-next, entry-long, snap-long}
 use Rattle.sens_snap.proofs.sheet.snap_into.Statement.{statement}
 use Rattle.sens_snap.proofs.sheet.snap_into.Tie as tie
 

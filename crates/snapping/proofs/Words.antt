@@ -2,34 +2,28 @@
 -- Main results: `segment-long`, `entry-long`, `snap-long`, `dual-long`; `of-segment`, `of-plain`; `entry-inside`, `entry-small`, `entry-next`. Assumes nothing.
 use mathlib.Core.Path.{_≡_, refl, sym, _∙_, subst}
 use mathlib.Core.Bool.{true, false}
-use mathlib.Core.List.{List, [], _∷_, map}
+use mathlib.Core.List.{List}
 use mathlib.Core.Logic.{_⊎_, inl, inr, ⊎-elim}
 use Prim.Native.Nat.{ℕ, zero, suc, _+_, _*_, _≤_, _<_, suc-le-suc}
-use native.Mathlib.Nat.{not-suc-le-zero, le-of-suc-le-suc, le-trans}
+use native.Mathlib.Nat.{le-trans}
 use native.Mathlib.Numerals.{add-one}
 use native.Mathlib.Omega.{arith}
 use mir.Syntax.{w64}
 use mir.Val.{Fits}
 use lib.Dec.{T, eqb}
-use lib.ListN.{length, getD, length-append}
+use lib.ListN.{length, getD}
 use lib.Ieee.{Float}
 use Rattle.sequence.specs.Layout.{start}
-use Rattle.sequence.specs.Lists.{before, each}
-use Rattle.sequence.proofs.Blocks.{inside}
-use Rattle.sequence.proofs.Lists.{made-length}
+use Rattle.sequence.specs.Lists.{before}
+use Rattle.sequence.proofs.Blocks.{inside, start-suc, before-start}
+use Rattle.sequence.proofs.Lists.{made-length, each-long, map-at}
 use Rattle.network.specs.declared.Counts.{Counts}
 use Rattle.network.specs.Layout.{segmentsAt, Few}
 use Rattle.network.specs.Numbers.{Wired}
 use Rattle.solution.specs.declared.Entry.{Entry}
 use Rattle.solution.specs.declared.Entry.the-variants.{Va, Pg, Flow, Psh, NuBal, LamUb, LamLb, RhoUb, RhoLb, MuUb, MuLb, GammaUb, GammaLb, Epigraph, SegmentDual, LinearDual, LinearValue, Objective}
 use Rattle.solution.specs.Sheet.{entries, rank, size, sizes, sheetLength}
 use Rattle.snapping.specs.Snap.{segmentWords, plainWords, entryWords, snapSheet, dualWords, dualSheet}
-
-pub each-long : {A : Type 0} (f : ℕ → List A) (g : ℕ → ℕ) (n : ℕ) → ((i : ℕ) → i < n → length (f i) ≡ g i) → length (each n f) ≡ before g n
-unfolding each before
-each-long f g zero h = refl
-each-long f g (suc n) h =
-    length-append (each n f) (f n) ∙ rw (each-long f g n (λ i l. h i (omega arith)), h n (omega arith))
 
 before-threes : (n : ℕ) → before (λ i. 3) n ≡ 3 * n
 unfolding before
@@ -38,24 +32,8 @@ before-threes (suc n) = rw (before-threes n) (omega arith)
 
 -- ---- where the next entry starts
 
-map-at : (f : Entry → ℕ) (es : List Entry) (k : ℕ) → k < length es → getD (map f es) k 0 ≡ f (getD es k Va)
-map-at f [] k h = absurd (not-suc-le-zero h)
-map-at f (e ∷ es) zero h = refl
-map-at f (e ∷ es) (suc k) h = map-at f es k (le-of-suc-le-suc h)
-
-start-suc : (xs : List ℕ) (k : ℕ) → start xs (suc k) ≡ start xs k + getD xs k 0
-start-suc [] zero = refl
-start-suc [] (suc k) = refl
-start-suc (x ∷ xs) zero = omega arith
-start-suc (x ∷ xs) (suc k) = omega (arith, start-suc xs k)
-
-pub before-start : (xs : List ℕ) (k : ℕ) → before (λ i. getD xs i 0) k ≡ start xs k
-unfolding before
-before-start xs zero = refl
-before-start xs (suc k) = rw (before-start xs k) (sym (start-suc xs k))
-
 pub entry-size : (c : Counts) (p k : ℕ) → k < 18 → getD (sizes c p) k 0 ≡ size c p (getD entries k Va)
-entry-size c p k h = map-at (size c p) entries k h
+entry-size c p k h = map-at (size c p) entries k Va h
 
 start-next : (c : Counts) (p k : ℕ) → k < 18 → start (sizes c p) (k + 1) ≡ start (sizes c p) k + size c p (getD entries k Va)
 start-next c p k h = rw (add-one, start-suc (sizes c p) k, entry-size c p k h)

@@ -1,0 +1,2 @@
+-- The laws of the assembly's definitions. Assumes nothing.
+pub mod Lengths

@@ -1,6 +1,6 @@
 // On typed slices.
 use change::change;
-use change::run_changes;
+use change_run::run_changes;
 use decoding::answer::pack;
 ghost use mathlib.Core.Path.{_≡_};
 ghost use mathlib.Core.List.{[]};

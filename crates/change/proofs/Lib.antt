@@ -1,3 +1,2 @@
--- The laws of a change and of a run of changes. Assumes nothing.
+-- The laws of a change. Assumes nothing.
 pub mod Made
-pub mod Run

@@ -1,11 +1,11 @@
--- `change::run_one` meets its contract: the call's outcome, word by word. Assumes nothing.
+-- `change_run::run_one` meets its contract: the call's outcome, word by word. Assumes nothing.
 use mathlib.Core.Path.{ap}
 use native.Mathlib.Omega.{arith}
 use lib.ListN.{set}
 use borrow.Author.Needs.{needs}
 use Rattle.job_book.specs.Book.{Outcome}
-use Rattle.change.proofs.run_one.Statement.{statement}
-use Rattle.change.proofs.run_one.Tie as tie
+use Rattle.change_run.proofs.run_one.Statement.{statement}
+use Rattle.change_run.proofs.run_one.Tie as tie
 
 mul-numbers : tie.Need-mul-numbers
 mul-numbers c = let s = c .before .before .before .before .before .before .before .before .before .before .before .before .before .before .before .before .before .before .before .before .before .before .before .before .before .before .before in omega (arith, s)

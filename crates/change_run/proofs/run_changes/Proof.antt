@@ -1,4 +1,4 @@
--- `change::run_changes` meets its contract: the loop goes by the run's last change. Assumes nothing.
+-- `change_run::run_changes` meets its contract: the loop goes by the run's last change. Assumes nothing.
 use mathlib.Core.Path.{_≡_, refl}
 use mathlib.Core.List.{[]}
 use Prim.Native.Nat.{_-_, _≤_}
@@ -6,9 +6,9 @@ use native.Mathlib.Omega.{arith}
 use lib.ListN.{length}
 use Rattle.kkt.specs.Slots.Rule.{firstPlace}
 use Rattle.job_book.specs.Book.{given, words}
-use Rattle.change.proofs.Run.{Going, begin, more, run-uneven, run-short-numbers, run-short-counts, run-done}
-use Rattle.change.proofs.run_changes.Statement.{statement}
-use Rattle.change.proofs.run_changes.Tie as tie
+use Rattle.change_run.proofs.Run.{Going, begin, more, run-uneven, run-short-numbers, run-short-counts, run-done}
+use Rattle.change_run.proofs.run_changes.Statement.{statement}
+use Rattle.change_run.proofs.run_changes.Tie as tie
 
 abbrev Inv-loop : tie.InvT-loop
 Inv-loop wiring readings₀ term-index term-coefficient solution rows₀ cols₀ values₀ changes numbers₀ counted₀ n i₀ readings rows cols values numbers counted i =

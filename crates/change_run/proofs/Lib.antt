@@ -1,0 +1,2 @@
+-- The laws of a run of changes. Assumes nothing.
+pub mod Run

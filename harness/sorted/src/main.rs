@@ -62,8 +62,9 @@ const RELATIONS: [(&str, &str); 8] = [
 ];
 
 /// Heads of types that say something, besides the relations: contracts and what stands in them.
-const STATEMENTS: [&str; 11] =
-    ["Post", "Learnt", "Asked", "Pre", "Any", "All", "Alike", "Agrees", "Goes", "Slack", "Fair"];
+const STATEMENTS: [&str; 11] = [
+    "Post", "Learnt", "Asked", "Pre", "Any", "All", "Alike", "Agrees", "Goes", "Slack", "Fair",
+];
 
 /// How the checker marks a part of a text that it left out.
 const LEFT_OUT: &str = "…[";
@@ -96,18 +97,29 @@ fn head(term: &str) -> &str {
 /// The words of a term without the steps back.
 fn without_steps(term: &str) -> Vec<&str> {
     let between = |c: char| c.is_whitespace() || "();,".contains(c);
-    term.split(between).filter(|word| !word.is_empty() && *word != ".before").collect()
+    term.split(between)
+        .filter(|word| !word.is_empty() && *word != ".before")
+        .collect()
 }
 
 /// The kind of an error that says which type is needed and which is given.
 fn mismatch(text: &str) -> Kind {
-    let Some((needed, _)) = quoted(text, "expected type") else { return Kind::Unknown };
-    let Some((given, _)) = quoted(text, "but this has type") else { return Kind::Unknown };
+    let Some((needed, _)) = quoted(text, "expected type") else {
+        return Kind::Unknown;
+    };
+    let Some((given, _)) = quoted(text, "but this has type") else {
+        return Kind::Unknown;
+    };
     let heads = [head(needed), head(given)];
     if heads.iter().any(|head| head.starts_with("Need-")) {
         return Kind::Misfit;
     }
-    let relation = |head: &str| RELATIONS.iter().find(|(name, _)| *name == head).map(|(_, is)| *is);
+    let relation = |head: &str| {
+        RELATIONS
+            .iter()
+            .find(|(name, _)| *name == head)
+            .map(|(_, is)| *is)
+    };
     // `a < b` is written `suc a ≤ b` too: where both are computed and differ further in, they are one relation
     let computed = text.contains("computed as far as they go, the two types");
     match (relation(heads[0]), relation(heads[1])) {
@@ -173,24 +185,40 @@ fn judged(log: &str) -> (Kind, String) {
     if let Some(text) = own {
         return (kind(text), text.clone());
     }
-    let unproved = |line: &&str| line.starts_with("note: ") && line.contains(": it is not proved that ");
+    let unproved =
+        |line: &&str| line.starts_with("note: ") && line.contains(": it is not proved that ");
     match log.lines().find(unproved) {
         Some(line) => (Kind::Fact, line.to_string()),
-        None => (Kind::Unknown, "no error that is not another's consequence".to_string()),
+        None => (
+            Kind::Unknown,
+            "no error that is not another's consequence".to_string(),
+        ),
     }
 }
 
 /// The start of a text, on one line.
 fn short(text: &str) -> String {
-    text.chars().map(|c| if c == '\n' { ' ' } else { c }).take(240).collect()
+    text.chars()
+        .map(|c| if c == '\n' { ' ' } else { c })
+        .take(240)
+        .collect()
 }
 
 /// The must-fail edits: crate and label.
 fn edits(crates: &Path) -> Vec<(String, String)> {
-    let name = |path: &Path| path.file_stem().unwrap_or_default().to_string_lossy().to_string();
+    let name = |path: &Path| {
+        path.file_stem()
+            .unwrap_or_default()
+            .to_string_lossy()
+            .to_string()
+    };
     let mut found = Vec::new();
     for entry in fs::read_dir(crates).into_iter().flatten().flatten() {
-        for edit in fs::read_dir(entry.path().join("must-fail")).into_iter().flatten().flatten() {
+        for edit in fs::read_dir(entry.path().join("must-fail"))
+            .into_iter()
+            .flatten()
+            .flatten()
+        {
             if edit.path().extension().is_some_and(|e| e == "edit") {
                 found.push((name(&entry.path()), name(&edit.path())));
             }
@@ -206,7 +234,11 @@ fn main() {
     let all = edits(&root.join("crates"));
     let (mut facts, mut misfits, mut unknown, mut missing) = (0, 0, 0, 0);
     for (krate, label) in &all {
-        let log = root.join("target/must-fail").join(krate).join(label).join(".log");
+        let log = root
+            .join("target/must-fail")
+            .join(krate)
+            .join(label)
+            .join(".log");
         let Ok(log) = fs::read(&log) else {
             println!("{krate}/{label}: no log");
             missing += 1;
@@ -254,14 +286,34 @@ mod tests {
         for text in texts {
             assert_eq!(kind(text), Kind::Fact, "{text}");
         }
-        let text = mismatched("lt nought (c .args .x) ≡ true", "Row.get 2 (T2 .locals) ≡ true", "lt", "le");
+        let text = mismatched(
+            "lt nought (c .args .x) ≡ true",
+            "Row.get 2 (T2 .locals) ≡ true",
+            "lt",
+            "le",
+        );
         assert_eq!(kind(&text), Kind::Fact);
-        let text = mismatched("P.Reads.Post (c .κs)", "mathlib.Core.Path._≡_ 2 (firstOf ts)", "3", "2");
+        let text = mismatched(
+            "P.Reads.Post (c .κs)",
+            "mathlib.Core.Path._≡_ 2 (firstOf ts)",
+            "3",
+            "2",
+        );
         assert_eq!(kind(&text), Kind::Fact);
-        let text = mismatched("Nat._<_ (f 9) x", "Nat._≤_ (suc (f 8)) x", "Nat._<_", "Nat._≤_");
+        let text = mismatched(
+            "Nat._<_ (f 9) x",
+            "Nat._≤_ (suc (f 8)) x",
+            "Nat._<_",
+            "Nat._≤_",
+        );
         let text = format!("{text}\n  computed as far as they go, the two types differ only where one has `9` (expected) and the other has `8` (found)");
         assert_eq!(kind(&text), Kind::Fact);
-        let text = mismatched("f (g x) ≡ y", "f (each (λ i. asRow…[1823 bytes]…s ∷ []))", "g x", "each");
+        let text = mismatched(
+            "f (g x) ≡ y",
+            "f (each (λ i. asRow…[1823 bytes]…s ∷ []))",
+            "g x",
+            "each",
+        );
         assert_eq!(kind(&text), Kind::Fact);
     }
 
@@ -276,18 +328,31 @@ mod tests {
         for text in texts {
             assert_eq!(kind(text), Kind::Misfit, "{text}");
         }
-        let text = mismatched("Nat._<_ (?0 c) (?1 c)", "Nat._≤_ (get 5) (get 4)", "Nat._<_", "Nat._≤_");
+        let text = mismatched(
+            "Nat._<_ (?0 c) (?1 c)",
+            "Nat._≤_ (get 5) (get 4)",
+            "Nat._<_",
+            "Nat._≤_",
+        );
         assert_eq!(kind(&text), Kind::Misfit);
         let text = mismatched("P.Tie.Need-returns-2", "P.Tie.Need-returns-3", "2", "3");
         assert_eq!(kind(&text), Kind::Misfit);
-        let text = mismatched("f (c .before .args) ≡ x", "f (c .args) ≡ x", "c .before .args", "c .args");
+        let text = mismatched(
+            "f (c .before .args) ≡ x",
+            "f (c .args) ≡ x",
+            "c .before .args",
+            "c .args",
+        );
         assert_eq!(kind(&text), Kind::Misfit);
     }
 
     #[test]
     fn unknowns() {
         assert_eq!(kind("`returns`: something else is wrong"), Kind::Unknown);
-        assert_eq!(kind(&mismatched("Float", "x ≡ y", "Float", "x")), Kind::Unknown);
+        assert_eq!(
+            kind(&mismatched("Float", "x ≡ y", "Float", "x")),
+            Kind::Unknown
+        );
         assert_eq!(judged("logic=not-proved\n").0, Kind::Unknown);
     }
 

@@ -62,8 +62,9 @@ const RELATIONS: [(&str, &str); 8] = [
 ];
 
 /// Heads of types that say something, besides the relations: contracts and what stands in them.
-const STATEMENTS: [&str; 11] = [
+const STATEMENTS: [&str; 13] = [
     "Post", "Learnt", "Asked", "Pre", "Any", "All", "Alike", "Agrees", "Goes", "Slack", "Fair",
+    "Touched", "Runs",
 ];
 
 /// How the checker marks a part of a text that it left out.

@@ -11,12 +11,14 @@
 //! - search finds no proof of a goal;
 //! - all rewritings are made, and the two sides of the equation that is left are not equal;
 //! - two terms that have to be equal are compared, and are not;
-//! - one statement is needed and another is given, both of a kind that `STATEMENTS` names.
+//! - one statement is needed and another is given. A statement is a relation, a part of a contract or
+//!   what a crate declares as a family of types, as `Runs` or `Alike`.
 //! The last is no failed fact where the two are different relations, where they differ only in how
 //! many steps back they look, or where a need of another name is given: there the proof no longer fits, as
 //! where a rewriting finds nothing, or where a name, a field or an argument is not there.
 //! An error of no kind named here is a failure too: it is to be read, and then named.
 
+use std::collections::HashSet;
 use std::path::Path;
 use std::{env, fs, process};
 
@@ -61,11 +63,8 @@ const RELATIONS: [(&str, &str); 8] = [
     ("≠", "≠"),
 ];
 
-/// Heads of types that say something, besides the relations: contracts and what stands in them.
-const STATEMENTS: [&str; 13] = [
-    "Post", "Learnt", "Asked", "Pre", "Any", "All", "Alike", "Agrees", "Goes", "Slack", "Fair",
-    "Touched", "Runs",
-];
+/// Parts of a contract, as the checker names them.
+const CONTRACTS: [&str; 4] = ["Post", "Learnt", "Asked", "Pre"];
 
 /// How the checker marks a part of a text that it left out.
 const LEFT_OUT: &str = "…[";
@@ -104,7 +103,7 @@ fn without_steps(term: &str) -> Vec<&str> {
 }
 
 /// The kind of an error that says which type is needed and which is given.
-fn mismatch(text: &str) -> Kind {
+fn mismatch(text: &str, families: &HashSet<String>) -> Kind {
     let Some((needed, _)) = quoted(text, "expected type") else {
         return Kind::Unknown;
     };
@@ -129,7 +128,9 @@ fn mismatch(text: &str) -> Kind {
     }
     // where the checker left out a part of what is given, what is needed decides
     let cut = |term: &str| term.contains(LEFT_OUT);
-    let said = |head: &str| relation(head).is_some() || STATEMENTS.contains(&head);
+    let said = |head: &str| {
+        relation(head).is_some() || CONTRACTS.contains(&head) || families.contains(head)
+    };
     if !said(heads[0]) || !(said(heads[1]) || cut(given)) {
         return Kind::Unknown;
     }
@@ -144,7 +145,7 @@ fn mismatch(text: &str) -> Kind {
 }
 
 /// The kind of an error by its text.
-fn kind(text: &str) -> Kind {
+fn kind(text: &str, families: &HashSet<String>) -> Kind {
     if text.contains("was not admitted") && text.contains("so this cannot be checked") {
         return Kind::Follows;
     }
@@ -152,7 +153,7 @@ fn kind(text: &str) -> Kind {
         return Kind::Fact;
     }
     if text.contains("but this has type") {
-        return mismatch(text);
+        return mismatch(text, families);
     }
     if MISFITS.iter().any(|misfit| text.contains(misfit)) {
         return Kind::Misfit;
@@ -180,11 +181,13 @@ fn errors(log: &str) -> Vec<String> {
 }
 
 /// The kind of a log and the text that decides it.
-fn judged(log: &str) -> (Kind, String) {
+fn judged(log: &str, families: &HashSet<String>) -> (Kind, String) {
     let all = errors(log);
-    let own = all.iter().find(|text| kind(text) != Kind::Follows);
+    let own = all
+        .iter()
+        .find(|text| kind(text, families) != Kind::Follows);
     if let Some(text) = own {
-        return (kind(text), text.clone());
+        return (kind(text, families), text.clone());
     }
     let unproved =
         |line: &&str| line.starts_with("note: ") && line.contains(": it is not proved that ");
@@ -194,6 +197,35 @@ fn judged(log: &str) -> (Kind, String) {
             Kind::Unknown,
             "no error that is not another's consequence".to_string(),
         ),
+    }
+}
+
+/// The family of types that a line declares: `record Runs (..) : Type 0`, `Alike : Float → Float → Type 0`.
+fn family(line: &str) -> Option<&str> {
+    let line = line.trim().trim_end_matches(" where");
+    let signature = line.strip_suffix("Type 0")?.trim_end();
+    let mut words = line
+        .split_whitespace()
+        .skip_while(|word| ["pub", "abbrev", "unfoldable", "record", "data"].contains(word));
+    let name = words.next()?;
+    let taken = signature.ends_with('→') || words.next()?.starts_with(['(', '{']);
+    (taken && !name.starts_with(['(', '-'])).then_some(name)
+}
+
+/// The families of types that the crates below a folder declare.
+fn families(folder: &Path, found: &mut HashSet<String>) {
+    for path in fs::read_dir(folder)
+        .into_iter()
+        .flatten()
+        .flatten()
+        .map(|entry| entry.path())
+    {
+        if path.is_dir() {
+            families(&path, found);
+        } else if path.extension().is_some_and(|e| e == "antt") {
+            let text = fs::read_to_string(&path).unwrap_or_default();
+            found.extend(text.lines().filter_map(family).map(str::to_string));
+        }
     }
 }
 
@@ -233,6 +265,8 @@ fn main() {
     let root = env::args().nth(1).unwrap_or_else(|| ".".to_string());
     let root = Path::new(&root);
     let all = edits(&root.join("crates"));
+    let mut statements = HashSet::new();
+    families(&root.join("crates"), &mut statements);
     let (mut facts, mut misfits, mut unknown, mut missing) = (0, 0, 0, 0);
     for (krate, label) in &all {
         let log = root
@@ -245,7 +279,7 @@ fn main() {
             missing += 1;
             continue;
         };
-        let (kind, text) = judged(&String::from_utf8_lossy(&log));
+        let (kind, text) = judged(&String::from_utf8_lossy(&log), &statements);
         let (count, what) = match kind {
             Kind::Fact => (&mut facts, ""),
             Kind::Misfit => (&mut misfits, "the proof no longer fits"),
@@ -267,6 +301,14 @@ fn main() {
 #[cfg(test)]
 mod tests {
     use super::*;
+
+    fn kind(text: &str) -> Kind {
+        super::kind(text, &HashSet::from(["Runs".to_string()]))
+    }
+
+    fn judged(log: &str) -> Kind {
+        super::judged(log, &HashSet::new()).0
+    }
 
     /// What is needed and what is given, as the checker says it.
     fn mismatched(needed: &str, given: &str, a: &str, b: &str) -> String {
@@ -319,6 +361,20 @@ mod tests {
     }
 
     #[test]
+    fn declared_families() {
+        assert_eq!(
+            family("pub record Runs (A : Type 0) (n : ℕ) : Type 0 where"),
+            Some("Runs")
+        );
+        assert_eq!(
+            family("  abbrev pub Alike : Float → Float → Type 0"),
+            Some("Alike")
+        );
+        assert_eq!(family("pub record Counts : Type 0 where"), None);
+        assert_eq!(family("getD : {A : Type 0} → List A → ℕ → A → A"), None);
+    }
+
+    #[test]
     fn misfits() {
         let texts = [
             "`returns`: `rw`: no occurrence of the path's left endpoint in the goal: write the family yourself",
@@ -354,7 +410,7 @@ mod tests {
             kind(&mismatched("Float", "x ≡ y", "Float", "x")),
             Kind::Unknown
         );
-        assert_eq!(judged("logic=not-proved\n").0, Kind::Unknown);
+        assert_eq!(judged("logic=not-proved\n"), Kind::Unknown);
     }
 
     #[test]
@@ -364,9 +420,9 @@ mod tests {
         let misfit = "a/Proof.antt:2:1: error: `returns`: `rw`: no occurrence of the path's left endpoint in the goal\n";
         let fact = "a/Proof.antt:3:1: error: `returns`: `omega`: the goal does not follow from what it read\n";
         let note = "note: a/src/lib.rt:31:1: it is not proved that what the function ensures holds when it returns (`returns`)\n";
-        assert_eq!(judged(&[follows, misfit, fact].concat()).0, Kind::Misfit);
-        assert_eq!(judged(&[follows, fact, misfit].concat()).0, Kind::Fact);
-        assert_eq!(judged(&[follows, note].concat()).0, Kind::Fact);
-        assert_eq!(judged(follows).0, Kind::Unknown);
+        assert_eq!(judged(&[follows, misfit, fact].concat()), Kind::Misfit);
+        assert_eq!(judged(&[follows, fact, misfit].concat()), Kind::Fact);
+        assert_eq!(judged(&[follows, note].concat()), Kind::Fact);
+        assert_eq!(judged(follows), Kind::Unknown);
     }
 }

@@ -11,12 +11,14 @@
 //! - search finds no proof of a goal;
 //! - all rewritings are made, and the two sides of the equation that is left are not equal;
 //! - two terms that have to be equal are compared, and are not;
-//! - one statement is needed and another is given, both of a kind that `STATEMENTS` names.
+//! - one statement is needed and another is given. A statement is a relation, a part of a contract or
+//!   what a crate declares as a family of types, as `Runs` or `Alike`.
 //! The last is no failed fact where the two are different relations, where they differ only in how
 //! many steps back they look, or where a need of another name is given: there the proof no longer fits, as
 //! where a rewriting finds nothing, or where a name, a field or an argument is not there.
 //! An error of no kind named here is a failure too: it is to be read, and then named.
 
+use std::collections::HashSet;
 use std::path::Path;
 use std::{env, fs, process};
 
@@ -61,9 +63,8 @@ const RELATIONS: [(&str, &str); 8] = [
     ("≠", "≠"),
 ];
 
-/// Heads of types that say something, besides the relations: contracts and what stands in them.
-const STATEMENTS: [&str; 11] =
-    ["Post", "Learnt", "Asked", "Pre", "Any", "All", "Alike", "Agrees", "Goes", "Slack", "Fair"];
+/// Parts of a contract, as the checker names them.
+const CONTRACTS: [&str; 4] = ["Post", "Learnt", "Asked", "Pre"];
 
 /// How the checker marks a part of a text that it left out.
 const LEFT_OUT: &str = "…[";
@@ -96,18 +97,29 @@ fn head(term: &str) -> &str {
 /// The words of a term without the steps back.
 fn without_steps(term: &str) -> Vec<&str> {
     let between = |c: char| c.is_whitespace() || "();,".contains(c);
-    term.split(between).filter(|word| !word.is_empty() && *word != ".before").collect()
+    term.split(between)
+        .filter(|word| !word.is_empty() && *word != ".before")
+        .collect()
 }
 
 /// The kind of an error that says which type is needed and which is given.
-fn mismatch(text: &str) -> Kind {
-    let Some((needed, _)) = quoted(text, "expected type") else { return Kind::Unknown };
-    let Some((given, _)) = quoted(text, "but this has type") else { return Kind::Unknown };
+fn mismatch(text: &str, families: &HashSet<String>) -> Kind {
+    let Some((needed, _)) = quoted(text, "expected type") else {
+        return Kind::Unknown;
+    };
+    let Some((given, _)) = quoted(text, "but this has type") else {
+        return Kind::Unknown;
+    };
     let heads = [head(needed), head(given)];
     if heads.iter().any(|head| head.starts_with("Need-")) {
         return Kind::Misfit;
     }
-    let relation = |head: &str| RELATIONS.iter().find(|(name, _)| *name == head).map(|(_, is)| *is);
+    let relation = |head: &str| {
+        RELATIONS
+            .iter()
+            .find(|(name, _)| *name == head)
+            .map(|(_, is)| *is)
+    };
     // `a < b` is written `suc a ≤ b` too: where both are computed and differ further in, they are one relation
     let computed = text.contains("computed as far as they go, the two types");
     match (relation(heads[0]), relation(heads[1])) {
@@ -116,7 +128,9 @@ fn mismatch(text: &str) -> Kind {
     }
     // where the checker left out a part of what is given, what is needed decides
     let cut = |term: &str| term.contains(LEFT_OUT);
-    let said = |head: &str| relation(head).is_some() || STATEMENTS.contains(&head);
+    let said = |head: &str| {
+        relation(head).is_some() || CONTRACTS.contains(&head) || families.contains(head)
+    };
     if !said(heads[0]) || !(said(heads[1]) || cut(given)) {
         return Kind::Unknown;
     }
@@ -131,7 +145,7 @@ fn mismatch(text: &str) -> Kind {
 }
 
 /// The kind of an error by its text.
-fn kind(text: &str) -> Kind {
+fn kind(text: &str, families: &HashSet<String>) -> Kind {
     if text.contains("was not admitted") && text.contains("so this cannot be checked") {
         return Kind::Follows;
     }
@@ -139,7 +153,7 @@ fn kind(text: &str) -> Kind {
         return Kind::Fact;
     }
     if text.contains("but this has type") {
-        return mismatch(text);
+        return mismatch(text, families);
     }
     if MISFITS.iter().any(|misfit| text.contains(misfit)) {
         return Kind::Misfit;
@@ -167,30 +181,77 @@ fn errors(log: &str) -> Vec<String> {
 }
 
 /// The kind of a log and the text that decides it.
-fn judged(log: &str) -> (Kind, String) {
+fn judged(log: &str, families: &HashSet<String>) -> (Kind, String) {
     let all = errors(log);
-    let own = all.iter().find(|text| kind(text) != Kind::Follows);
+    let own = all
+        .iter()
+        .find(|text| kind(text, families) != Kind::Follows);
     if let Some(text) = own {
-        return (kind(text), text.clone());
+        return (kind(text, families), text.clone());
     }
-    let unproved = |line: &&str| line.starts_with("note: ") && line.contains(": it is not proved that ");
+    let unproved =
+        |line: &&str| line.starts_with("note: ") && line.contains(": it is not proved that ");
     match log.lines().find(unproved) {
         Some(line) => (Kind::Fact, line.to_string()),
-        None => (Kind::Unknown, "no error that is not another's consequence".to_string()),
+        None => (
+            Kind::Unknown,
+            "no error that is not another's consequence".to_string(),
+        ),
+    }
+}
+
+/// The family of types that a line declares: `record Runs (..) : Type 0`, `Alike : Float → Float → Type 0`.
+fn family(line: &str) -> Option<&str> {
+    let line = line.trim().trim_end_matches(" where");
+    let signature = line.strip_suffix("Type 0")?.trim_end();
+    let mut words = line
+        .split_whitespace()
+        .skip_while(|word| ["pub", "abbrev", "unfoldable", "record", "data"].contains(word));
+    let name = words.next()?;
+    let taken = signature.ends_with('→') || words.next()?.starts_with(['(', '{']);
+    (taken && !name.starts_with(['(', '-'])).then_some(name)
+}
+
+/// The families of types that the crates below a folder declare.
+fn families(folder: &Path, found: &mut HashSet<String>) {
+    for path in fs::read_dir(folder)
+        .into_iter()
+        .flatten()
+        .flatten()
+        .map(|entry| entry.path())
+    {
+        if path.is_dir() {
+            families(&path, found);
+        } else if path.extension().is_some_and(|e| e == "antt") {
+            let text = fs::read_to_string(&path).unwrap_or_default();
+            found.extend(text.lines().filter_map(family).map(str::to_string));
+        }
     }
 }
 
 /// The start of a text, on one line.
 fn short(text: &str) -> String {
-    text.chars().map(|c| if c == '\n' { ' ' } else { c }).take(240).collect()
+    text.chars()
+        .map(|c| if c == '\n' { ' ' } else { c })
+        .take(240)
+        .collect()
 }
 
 /// The must-fail edits: crate and label.
 fn edits(crates: &Path) -> Vec<(String, String)> {
-    let name = |path: &Path| path.file_stem().unwrap_or_default().to_string_lossy().to_string();
+    let name = |path: &Path| {
+        path.file_stem()
+            .unwrap_or_default()
+            .to_string_lossy()
+            .to_string()
+    };
     let mut found = Vec::new();
     for entry in fs::read_dir(crates).into_iter().flatten().flatten() {
-        for edit in fs::read_dir(entry.path().join("must-fail")).into_iter().flatten().flatten() {
+        for edit in fs::read_dir(entry.path().join("must-fail"))
+            .into_iter()
+            .flatten()
+            .flatten()
+        {
             if edit.path().extension().is_some_and(|e| e == "edit") {
                 found.push((name(&entry.path()), name(&edit.path())));
             }
@@ -204,15 +265,21 @@ fn main() {
     let root = env::args().nth(1).unwrap_or_else(|| ".".to_string());
     let root = Path::new(&root);
     let all = edits(&root.join("crates"));
+    let mut statements = HashSet::new();
+    families(&root.join("crates"), &mut statements);
     let (mut facts, mut misfits, mut unknown, mut missing) = (0, 0, 0, 0);
     for (krate, label) in &all {
-        let log = root.join("target/must-fail").join(krate).join(label).join(".log");
+        let log = root
+            .join("target/must-fail")
+            .join(krate)
+            .join(label)
+            .join(".log");
         let Ok(log) = fs::read(&log) else {
             println!("{krate}/{label}: no log");
             missing += 1;
             continue;
         };
-        let (kind, text) = judged(&String::from_utf8_lossy(&log));
+        let (kind, text) = judged(&String::from_utf8_lossy(&log), &statements);
         let (count, what) = match kind {
             Kind::Fact => (&mut facts, ""),
             Kind::Misfit => (&mut misfits, "the proof no longer fits"),
@@ -235,6 +302,14 @@ fn main() {
 mod tests {
     use super::*;
 
+    fn kind(text: &str) -> Kind {
+        super::kind(text, &HashSet::from(["Runs".to_string()]))
+    }
+
+    fn judged(log: &str) -> Kind {
+        super::judged(log, &HashSet::new()).0
+    }
+
     /// What is needed and what is given, as the checker says it.
     fn mismatched(needed: &str, given: &str, a: &str, b: &str) -> String {
         format!(
@@ -254,15 +329,49 @@ mod tests {
         for text in texts {
             assert_eq!(kind(text), Kind::Fact, "{text}");
         }
-        let text = mismatched("lt nought (c .args .x) ≡ true", "Row.get 2 (T2 .locals) ≡ true", "lt", "le");
+        let text = mismatched(
+            "lt nought (c .args .x) ≡ true",
+            "Row.get 2 (T2 .locals) ≡ true",
+            "lt",
+            "le",
+        );
         assert_eq!(kind(&text), Kind::Fact);
-        let text = mismatched("P.Reads.Post (c .κs)", "mathlib.Core.Path._≡_ 2 (firstOf ts)", "3", "2");
+        let text = mismatched(
+            "P.Reads.Post (c .κs)",
+            "mathlib.Core.Path._≡_ 2 (firstOf ts)",
+            "3",
+            "2",
+        );
         assert_eq!(kind(&text), Kind::Fact);
-        let text = mismatched("Nat._<_ (f 9) x", "Nat._≤_ (suc (f 8)) x", "Nat._<_", "Nat._≤_");
+        let text = mismatched(
+            "Nat._<_ (f 9) x",
+            "Nat._≤_ (suc (f 8)) x",
+            "Nat._<_",
+            "Nat._≤_",
+        );
         let text = format!("{text}\n  computed as far as they go, the two types differ only where one has `9` (expected) and the other has `8` (found)");
         assert_eq!(kind(&text), Kind::Fact);
-        let text = mismatched("f (g x) ≡ y", "f (each (λ i. asRow…[1823 bytes]…s ∷ []))", "g x", "each");
+        let text = mismatched(
+            "f (g x) ≡ y",
+            "f (each (λ i. asRow…[1823 bytes]…s ∷ []))",
+            "g x",
+            "each",
+        );
         assert_eq!(kind(&text), Kind::Fact);
+    }
+
+    #[test]
+    fn declared_families() {
+        assert_eq!(
+            family("pub record Runs (A : Type 0) (n : ℕ) : Type 0 where"),
+            Some("Runs")
+        );
+        assert_eq!(
+            family("  abbrev pub Alike : Float → Float → Type 0"),
+            Some("Alike")
+        );
+        assert_eq!(family("pub record Counts : Type 0 where"), None);
+        assert_eq!(family("getD : {A : Type 0} → List A → ℕ → A → A"), None);
     }
 
     #[test]
@@ -276,19 +385,32 @@ mod tests {
         for text in texts {
             assert_eq!(kind(text), Kind::Misfit, "{text}");
         }
-        let text = mismatched("Nat._<_ (?0 c) (?1 c)", "Nat._≤_ (get 5) (get 4)", "Nat._<_", "Nat._≤_");
+        let text = mismatched(
+            "Nat._<_ (?0 c) (?1 c)",
+            "Nat._≤_ (get 5) (get 4)",
+            "Nat._<_",
+            "Nat._≤_",
+        );
         assert_eq!(kind(&text), Kind::Misfit);
         let text = mismatched("P.Tie.Need-returns-2", "P.Tie.Need-returns-3", "2", "3");
         assert_eq!(kind(&text), Kind::Misfit);
-        let text = mismatched("f (c .before .args) ≡ x", "f (c .args) ≡ x", "c .before .args", "c .args");
+        let text = mismatched(
+            "f (c .before .args) ≡ x",
+            "f (c .args) ≡ x",
+            "c .before .args",
+            "c .args",
+        );
         assert_eq!(kind(&text), Kind::Misfit);
     }
 
     #[test]
     fn unknowns() {
         assert_eq!(kind("`returns`: something else is wrong"), Kind::Unknown);
-        assert_eq!(kind(&mismatched("Float", "x ≡ y", "Float", "x")), Kind::Unknown);
-        assert_eq!(judged("logic=not-proved\n").0, Kind::Unknown);
+        assert_eq!(
+            kind(&mismatched("Float", "x ≡ y", "Float", "x")),
+            Kind::Unknown
+        );
+        assert_eq!(judged("logic=not-proved\n"), Kind::Unknown);
     }
 
     #[test]
@@ -298,9 +420,9 @@ mod tests {
         let misfit = "a/Proof.antt:2:1: error: `returns`: `rw`: no occurrence of the path's left endpoint in the goal\n";
         let fact = "a/Proof.antt:3:1: error: `returns`: `omega`: the goal does not follow from what it read\n";
         let note = "note: a/src/lib.rt:31:1: it is not proved that what the function ensures holds when it returns (`returns`)\n";
-        assert_eq!(judged(&[follows, misfit, fact].concat()).0, Kind::Misfit);
-        assert_eq!(judged(&[follows, fact, misfit].concat()).0, Kind::Fact);
-        assert_eq!(judged(&[follows, note].concat()).0, Kind::Fact);
-        assert_eq!(judged(follows).0, Kind::Unknown);
+        assert_eq!(judged(&[follows, misfit, fact].concat()), Kind::Misfit);
+        assert_eq!(judged(&[follows, fact, misfit].concat()), Kind::Fact);
+        assert_eq!(judged(&[follows, note].concat()), Kind::Fact);
+        assert_eq!(judged(follows), Kind::Unknown);
     }
 }

@@ -10,7 +10,7 @@ use Rattle.site_text.proofs.site_text.Statement.{statement}
 use Rattle.site_text.proofs.site_text.Tie as tie
 
 returns : tie.Need-returns
-returns c = counted (c .put-first-line .ensures .0) (omega (arith, c .put-first-line .ensures .1, c .put-first-line .kept)) (printed-other _ (c .before .before .if1 .taken))
+returns c = counted (c .put-first-line .ensures .0) (omega (arith, c .put-first-line .ensures .1, c .put-first-line .kept)) (printed-other _ (λ e. omega (arith, e, c .before .before .if1 .taken)))
 
 returns-2 : tie.Need-returns-2
 unfolding made whole ofInt ofBits
@@ -19,7 +19,7 @@ returns-2 c =
     let input = c .before .before .before .before .before .before .before .before .before .before .before .before .before .args .input .now in
     let decode = c .before .before .before .before .before .before .before .before .before .decode-words .ensures .0 in
     counted (put .ensures .0) (omega (arith, put .ensures .1, put .kept))
-    (printed-change input (c .before .before .before .before .before .before .before .before .before .before .before .if1 .left) (word input _ _ 0 (omega arith) decode) (word input _ _ 1 (omega arith) decode) (word input _ _ 2 (omega arith) decode) refl)
+    (printed-change input (omega (arith, c .before .before .before .before .before .before .before .before .before .before .before .if1 .left)) (word input _ _ 0 (omega arith) decode) (word input _ _ 1 (omega arith) decode) (word input _ _ 2 (omega arith) decode) refl)
 
 pub site-text-spec : {M : Type 1} → statement M
 site-text-spec =

@@ -212,7 +212,7 @@ uint64_t capi_contraction_first(CISTERNALOE_NETWORK_BYTES, uint32_t mode, double
     size_t selection_length);
 
 /* sens_right_side on bytes: the part's length in doubles, and its bytes where `sheet` has room. A slice that is ragged
- * or too long gives 0. */
+ * or too long gives 0. A NaN comes back as 7ff8000000000000. */
 size_t capi_right_side(uint32_t mode, size_t count, const uint8_t *parameter, size_t parameter_length,
     const uint8_t *selection, size_t selection_length, uint8_t *sheet, size_t sheet_length);
 

@@ -8,6 +8,7 @@ use native.Mathlib.Omega.{arith}
 use lib.ListN.{length}
 use lib.Ieee.{Float}
 use Rattle.sequence.specs.Answers.{marked, Filled, filled}
+use Rattle.sequence.proofs.Lists.{never}
 use Rattle.words.specs.Words.{doublesOf}
 use Rattle.network.specs.Numbers.{Network, sizesHold}
 use Rattle.interface.specs.declared.Mode.{Mode}
@@ -17,7 +18,6 @@ use Rattle.selector_check.specs.Tests.{dimOf}
 use Rattle.sens.specs.Calls.{thirdTests, thirdSheet, thirdNumber, thirdCall}
 use Rattle.decoding.specs.Exports.{out, filledOut}
 use Rattle.decoding.specs.Decoding.{Cells}
-use Rattle.decoding.proofs.Decoded.{never}
 use Rattle.decoding.proofs.Answered.{sheet-answer, sheet-count, sheet-one}
 
 module _ (N : Network) (mode : Mode) (S : Selector) (parameter solved : List Float) where

@@ -48,14 +48,15 @@ fn quoted(text: &str) -> impl Iterator<Item = &str> {
     text.split('`').skip(1).step_by(2)
 }
 
-/// Texts such as books/specs/Matrix, without the crates' folder before them.
+/// Texts such as books/specs/Matrix and bench/must-fail/another-count.edit, without the crates' folder before them.
 fn places(text: &str) -> impl Iterator<Item = &str> {
-    let outside = |c: char| !(c.is_ascii_alphanumeric() || "/_.".contains(c));
+    let outside = |c: char| !(c.is_ascii_alphanumeric() || "/_.-".contains(c));
     let named = |word: &&str| {
-        let mut parts = word.split('/').skip(1);
-        parts.next().is_some_and(|part| ["specs", "proofs", "src", "must-fail"].contains(&part))
+        let mut parts = word.split('/');
+        let crate_named = parts.next().is_some_and(|part| !part.is_empty());
+        crate_named && parts.next().is_some_and(|part| ["specs", "proofs", "src", "must-fail"].contains(&part))
     };
-    text.split(outside).map(|word| word.trim_end_matches('.')).filter(named)
+    text.split(outside).map(|word| word.trim_end_matches(['.', '-'])).filter(named)
 }
 
 fn main() {

@@ -38,10 +38,10 @@ use Rattle.books.specs.Matrix.{cellValues}
 use Rattle.books_residual.specs.Residual.{residual}
 use Rattle.books_program.specs.Rows.{rowed}
 use Rattle.books_program.specs.Program.{termValues}
-use Rattle.bench.specs.Cases.{Case, flat, placeIn, nonzero, present, valued as counted, rowEntries, variables, asked, cases, same, agree}
+use Rattle.bench.specs.Cases.{Case, flat, inRows, placeIn, nonzero, present, valued as counted, rowEntries, variables, asked, cases, same, agree}
 
 pub bench : agree cases ≡ true
-unfolding agree same cases flat printed firstLine tripletLine tripletsIn places ofInt ofBits toBits neg add sub mul div eq lt le whole tolerance rawLimit sheetLimit parameterLimit baseLow baseHigh finite magnitude within inRange maxZero firstOf marked fills before every some each when made turns front emit put1 puts lays joined partStart wire fieldStart place reading segmentStart termStart few lengthsHold sumsHold sizesHold partHolds flowTermsHold generationTermsHold termsHold wiringHolds inRank fieldHolds allWithin readingsHold networkNumber shedCap rowLimits pieceRank entryStart solved linearStart blockStart dim solutionLong solutionHolds emitted kktList branchParts referenceSlot columns slots matrixNumber namedCells among ownTests byNumber numberOf step activeRank sheds equalityRank inequalityRank activeOf columnStart nvar rowStart ncon tripletsBy aEntries quadTriplets wordOf valued columnWords placeIn nonzero present counted rowEntries variables snapSheet plainWords against constraintEntries hessianEntries program constraints bbusTo cellValues residual rowed termValues
+unfolding agree same cases flat inRows printed firstLine tripletLine tripletsIn places ofInt ofBits toBits neg add sub mul div eq lt le whole tolerance rawLimit sheetLimit parameterLimit baseLow baseHigh finite magnitude within inRange maxZero firstOf marked fills before every some each when made turns front emit put1 puts lays joined partStart wire fieldStart place reading segmentStart termStart few lengthsHold sumsHold sizesHold partHolds flowTermsHold generationTermsHold termsHold wiringHolds inRank fieldHolds allWithin readingsHold networkNumber shedCap rowLimits pieceRank entryStart solved linearStart blockStart dim solutionLong solutionHolds emitted kktList branchParts referenceSlot columns slots matrixNumber namedCells among ownTests byNumber numberOf step activeRank sheds equalityRank inequalityRank activeOf columnStart nvar rowStart ncon tripletsBy aEntries quadTriplets wordOf valued columnWords placeIn nonzero present counted rowEntries variables snapSheet plainWords against constraintEntries hessianEntries program constraints bbusTo cellValues residual rowed termValues
 bench = refl
 
 -- ---- from the test to the rule

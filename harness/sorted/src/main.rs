@@ -32,8 +32,9 @@ enum Kind {
 }
 
 /// Texts of a failed fact.
-const FACTS: [&str; 4] = [
+const FACTS: [&str; 5] = [
     "`omega`: the goal does not follow from what it read",
+    "of the goal does not follow from what it read. All of that holds, and the part fails, at `",
     "`search`: no proof of `",
     "has no last argument, so what it leaves must be a path whose two ends are equal, and `",
     "does not hold (this comparison",
@@ -322,6 +323,7 @@ mod tests {
     fn facts() {
         let texts = [
             "`returns-3`: `omega`: the goal does not follow from what it read. All of that holds, and the goal fails, at `x` = 513.",
+            "`encode-doubles-requires`: `omega`: the part `.0` of the goal does not follow from what it read. All of that holds, and the part fails, at `x` = 1, `y` = 0.",
             "`put-spec`: `search`: no proof of `InSlice T15 1 9`\n  was found. It stopped 5 lemmas deep",
             "`returns`: give a proof of that as the last argument, `rw L t`, or add what is missing to the list\n  \
              `rw` has no last argument, so what it leaves must be a path whose two ends are equal, and `Path Float (le a b) (lt a b)`\n  is none",

@@ -9,13 +9,14 @@ use lib.Ieee.{Float}
 use Rattle.float64.specs.Values.{nought, addAt, subAt}
 use Rattle.sequence.specs.Lists.{turns}
 use Rattle.network.specs.declared.Part.the-variants.{BrFrom, BrTo}
+use Rattle.network.specs.declared.Field.the-variants.{ShuntConductance, HvdcInjection}
 use Rattle.network.specs.Layout.{wire, reading}
 use Rattle.susceptance.specs.Susceptance.{susceptance, touched}
 use Rattle.model.specs.Quantities.{flowOffset, phaseTurn, phase, networkAt, fixedAt}
 use Rattle.kkt_sums.proofs.Sums.{balance-is, untouched}
 use Rattle.books.specs.Forms.{Place, Form, Alike, plain, valueOf}
-use Rattle.books.specs.Forms.Form.{_⊕_, _⊖_}
-use Rattle.books.specs.Manual.{Site, bbus, busShiftTo, shiftFlow, balance}
+use Rattle.books.specs.Forms.Form.{rd, _⊕_, _⊖_}
+use Rattle.books.specs.Manual.{Site, bbus, busShiftTo, busShift, shiftFlow, balance}
 use Rattle.books.specs.Model.{ModelIs}
 use Rattle.books.proofs.Doubles.{plainly}
 use Rattle.books.proofs.Setting.{Setting, S, bookSite, worth}
@@ -41,6 +42,10 @@ module _ (site : Site) (r : List Float) (X : Place → Float) where
   shift-is i (suc e) =
       shift-turn (eqb (wire (site .counts) (site .wiring) BrFrom e) i) (eqb (wire (site .counts) (site .wiring) BrTo e) i) e
       (turns (phaseTurn (site .counts) (site .wiring) r i) nought e) (busShiftTo site i e) (shift-is i e)
+
+  network-is : (i : ℕ) → networkAt (site .counts) (site .wiring) r i ≡ told (rd ShuntConductance i ⊕ busShift site i ⊖ rd HvdcInjection i)
+  unfolding networkAt phase
+  network-is i = rw (shift-is i (site .counts .branches))
 
   pub fixed-is : (i : ℕ) → fixedAt (site .counts) (site .wiring) r i ≡ told (balance site i .right)
   unfolding fixedAt networkAt phase
@@ -68,5 +73,6 @@ module _ (z : Setting) where
     left-out = λ i j h. ap plain (sym (untouched (z .counts) (z .wiring) (z .readings) i j h)) ∙ bus-sums i j;
     offset = offset-is;
     shift = phase-is;
+    network = λ i. network-is (bookSite z) (z .readings) _ i;
     fixed = λ i. fixed-is (bookSite z) (z .readings) _ i;
   }

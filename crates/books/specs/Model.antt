@@ -7,9 +7,11 @@ use mathlib.Core.List.{List}
 use lib.Ieee.{Float}
 use Rattle.float64.specs.Values.{nought}
 use Rattle.network.specs.declared.Counts.{Counts}
+use Rattle.network.specs.declared.Field.the-variants.{ShuntConductance, HvdcInjection}
 use Rattle.susceptance.specs.Susceptance.{susceptance, touched}
-use Rattle.model.specs.Quantities.{flowOffset, phase, fixedAt}
+use Rattle.model.specs.Quantities.{flowOffset, phase, networkAt, fixedAt}
 use Rattle.books.specs.Forms.{Form, Alike}
+use Rattle.books.specs.Forms.Form.{rd, _⊕_, _⊖_}
 use Rattle.books.specs.Manual.{Site, bbus, busShift, shiftFlow, balance}
 use Rattle.books.specs.Matrix.{siteOf, value}
 
@@ -28,5 +30,6 @@ module _ (c : Counts) (w : List ℕ) (r : List Float) (ti : List ℕ) (tc s : Li
     -- `current_flow_offset` is P_f,shift, and `phase_withdrawal` P_bus,shift
     pub offset : (e : ℕ) → flowOffset c r e ≡ worth (shiftFlow own e)
     pub shift : (i : ℕ) → phase c w r i ≡ worth (busShift own i)
-    -- `current_fixed_withdrawal` is the balance's right side
+    -- `network_withdrawal` is G_sh and P_bus,shift, less what HVDC lines bring, and `current_fixed_withdrawal` the balance's right side
+    pub network : (i : ℕ) → networkAt c w r i ≡ worth (rd ShuntConductance i ⊕ busShift own i ⊖ rd HvdcInjection i)
     pub fixed : (i : ℕ) → fixedAt c w r i ≡ worth (balance own i .right)

@@ -19,11 +19,9 @@ use Rattle.sequence.proofs.Fronts.{take-front}
 use Rattle.words.specs.Words.{doubleAt, doublesOf, doubleBytes, joined}
 use Rattle.network.specs.Numbers.{Network, sizesHold}
 use Rattle.network.proofs.Tests.{number-size}
-use Rattle.kkt_index.specs.Index.{dim}
-use Rattle.kkt_index.proofs.Starts.{few-rows}
 use Rattle.solution_check.specs.Tests.{counted, solutionLong, solutionHolds, solutionTests}
-use Rattle.solution_check.proofs.Own.{few-pieces}
 use Rattle.selector_check.specs.Tests.{dimOf}
+use Rattle.selector_check.proofs.Dims.{dim-few}
 use Rattle.interface.specs.declared.Parameter.{Parameter}
 use Rattle.parameter_column.specs.declared.Served.{Served}
 use Rattle.parameter_column.specs.Columns.{columnWords}
@@ -33,7 +31,7 @@ use Rattle.sens_parameters.specs.declared.ServedParameter.the-variants.{Known, 
 use Rattle.sens_parameters.specs.Calls.{servedOf, columnsHold, isCost, somePiecewise, columnsOf, resultOf, ownTests, jacobianNumber, columnsFilled, jacobianCall}
 use Rattle.decoding.specs.Exports.{out, packed}
 use Rattle.decoding.specs.Decoding.{Cells}
-use Rattle.decoding.proofs.Answered.{short-same, last-passed, last-same, few-counts, size-fails}
+use Rattle.decoding.proofs.Answered.{short-same, last-passed, last-same, size-fails}
 use Rattle.capi_columns.specs.Columns.{columnOut}
 
 -- ---- tests in front of others
@@ -70,9 +68,12 @@ module _ (N : Network) (s : List Float) (i : ℕ) where
   unfolding jacobian each columnWords
   one-long k = made-length _ (dimOf N)
 
-  few-dim : firstOf (solutionTests false N s) ≡ 0 → dimOf N ≤ 6544
-  unfolding dim
-  few-dim z = omega (arith, few-counts N (solutionLong N s) (solutionHolds false N s) z, few-pieces (counted N) (N .wiring), few-rows (counted N) (N .wiring) (N .readings))
+  sized : firstOf (solutionTests false N s) ≡ 0 → sizesHold N ≡ true
+  sized z = go (sizesHold N) refl
+    where
+      go : (b : Bool) → sizesHold N ≡ b → b ≡ true
+      go true q = refl
+      go false q = absurd (omega (arith, z, number-size N (solutionLong N s) (solutionHolds false N s) q))
 
   -- ---- the tests of a served parameter before that of its sheet
 
@@ -91,13 +92,6 @@ module _ (N : Network) (s : List Float) (i : ℕ) where
   no-test-holds : (x : ServedParameter) (sheet : List Float) → jacobianNumber N s x (i ∷ []) sheet ≡ 0 → firstOf (solutionTests false N s) ≡ 0
   unfolding jacobianNumber marked
   no-test-holds x sheet e = front-none (solutionTests false N s) (ownTests N s x (i ∷ []) sheet) tt e
-
-  sized : firstOf (solutionTests false N s) ≡ 0 → sizesHold N ≡ true
-  sized z = go (sizesHold N) refl
-    where
-      go : (b : Bool) → sizesHold N ≡ b → b ≡ true
-      go true q = refl
-      go false q = absurd (omega (arith, z, number-size N (solutionLong N s) (solutionHolds false N s) q))
 
   roomy : (x : ServedParameter) (sheet : List Float) → jacobianNumber N s x (i ∷ []) sheet ≡ 0 → dimOf N ≤ length sheet
   unfolding jacobianNumber marked
@@ -122,7 +116,7 @@ module _ (N : Network) (s : List Float) (i : ℕ) where
       where
         rooms : firstOf (before-room k) ≡ 0 → short (columnsOf N s k (i ∷ [])) cells ≡ short (columnsOf N s k (i ∷ [])) (doublesOf bs)
         rooms z =
-            let few : dimOf N ≤ 6544 = few-dim (front-none (solutionTests false N s) _ tt z) in
+            let few : dimOf N ≤ 6544 = dim-few N (sized (front-none (solutionTests false N s) _ tt z)) in
             short-same (length cells) (length (doublesOf bs)) (length (columnsOf N s k (i ∷ [])))
             (λ l. omega (arith, made-length (doubleAt bs) (length bs / 8), room .within))
             (λ l. room .enough (length (columnsOf N s k (i ∷ []))) (omega (arith, one-long k)) (omega (arith, made-length (doubleAt bs) (length bs / 8))))

@@ -1,5 +1,5 @@
--- The call before the solve on bytes: a system of an accepted network has at most 6544 rows, and the laws of the call's answer.
--- Main results: `dim-few`; `first-answer`, `first-written`, `first-count`; `first-one`, `unfit`. Assumes nothing.
+-- The call before the solve on bytes: the laws of its answer.
+-- Main results: `first-answer`, `first-written`, `first-count`; `first-one`, `unfit`. Assumes nothing.
 use mathlib.Core.Path.{_≡_, refl, ap, _∙_}
 use mathlib.Core.Bool.{Bool, true, false, cond, _&&_}
 use mathlib.Core.List.{List, [], _∷_, _++_}
@@ -15,26 +15,17 @@ use Rattle.sequence.proofs.Lists.{made-length}
 use Rattle.sequence.proofs.Fronts.{take-front}
 use Rattle.words.specs.Words.{doubleAt, doublesOf, doubleBytes, joined}
 use Rattle.network.specs.Numbers.{Network, sizesHold, networkTests}
-use Rattle.network.proofs.Tests.{sized-few}
-use Rattle.kkt_index.specs.Index.{dim}
-use Rattle.kkt_index.proofs.Starts.{few-rows}
-use Rattle.solution_check.specs.Tests.{counted}
-use Rattle.solution_check.proofs.Own.{few-pieces}
 use Rattle.interface.specs.declared.Mode.{Mode}
 use Rattle.interface.specs.declared.Mode.the-variants.{Forward, Adjoint, Auto}
 use Rattle.contraction.specs.Contraction.{Selector, elements, sides}
 use Rattle.contraction.proofs.Columns.{selection-long}
 use Rattle.selector_check.specs.Tests.{dimOf, selectorLong, selectorHolds}
+use Rattle.selector_check.proofs.Dims.{dim-few}
 use Rattle.sens.specs.Calls.{countFits, firstSheet, firstTests, firstNumber, firstCall}
 use Rattle.decoding.specs.Exports.{out, packed}
 use Rattle.decoding.specs.Decoding.{Cells}
 use Rattle.decoding.proofs.Answered.{short-same, last-passed, front-passed, last-same, size-fails}
 use Rattle.capi_contraction.specs.Contraction.{written, firstOut}
-
--- 5n + 3k + 6m + p + S + 2q + R at the greatest counts
-pub dim-few : (N : Network) → sizesHold N ≡ true → dimOf N ≤ 6544
-unfolding dim
-dim-few N h = omega (arith, sized-few N h, few-pieces (counted N) (N .wiring), few-rows (counted N) (N .wiring) (N .readings))
 
 passed-sizes : (N : Network) (sizes values : Bool) (ts : List Test) → firstOf (networkTests N sizes values ++ ts) ≡ 0 → sizesHold N ≡ true
 passed-sizes N sizes values ts z = go (sizesHold N) refl

@@ -5,7 +5,6 @@ use mathlib.Core.Bool.{Bool, true, false, _&&_}
 use mathlib.Core.List.{List, [], _++_, append-nil}
 use Prim.Native.Nat.{ℕ, _*_, _/_, _%_, _≤_}
 use native.Mathlib.Omega.{arith}
-use native.Mathlib.Decide.{ℕ-discrete}
 use lib.Dec.{eqb}
 use lib.ListN.{length, take, length-map}
 use lib.Seq.{take-length, drop-length}
@@ -15,7 +14,7 @@ use Rattle.sequence.specs.Lists.{front}
 use Rattle.sequence.specs.Answers.{Test, firstOf, marked}
 use Rattle.sequence.specs.Sheets.{Triplet, rowsOf, colsOf, valuesOf, room, shortList, laid}
 use Rattle.sequence.proofs.Lists.{and-left, and-right, made-length}
-use Rattle.sequence.proofs.Answers.{first-stands}
+use Rattle.sequence.proofs.Answers.{front-passed}
 use Rattle.sequence.proofs.Fronts.{take-front}
 use Rattle.words.specs.Words.{doubleAt, wordsOf, doublesOf, doubleBytes}
 use Rattle.words.proofs.Laws.{doubleBytes-length}
@@ -90,11 +89,7 @@ module _ (G : Given) (rule : Rule) (read : List Float) (h : Change) where
   -- where no test before 7 holds the network is accepted, and its list is short
   first-none : firstOf tests ≡ 0 → firstOf first ≡ 0
   unfolding marked
-  first-none e = go (ℕ-discrete (firstOf first) 0) (first-stands first (ownTests (countsIn G) (kindOf h) (indexOf h) (valueOf h)) tt)
-    where
-      go : Dec (firstOf first ≡ 0) → ((firstOf first ≡ 0 → ⊥) → firstOf tests ≡ firstOf first) → firstOf first ≡ 0
-      go (yes z) s = z
-      go (no z) s = sym (s z) ∙ e
+  first-none e = front-passed first (ownTests (countsIn G) (kindOf h) (indexOf h) (valueOf h)) tt e
 
   small : firstOf tests ≡ 0 → length list ≤ 27552
   small e =

@@ -5,7 +5,6 @@ use mathlib.Core.Bool.{Bool, true, false, cond, not, _&&_}
 use mathlib.Core.List.{List, [], _∷_, _++_}
 use Prim.Native.Nat.{ℕ, _/_, _≤_}
 use native.Mathlib.Nat.{mul-zero, mul-one}
-use native.Mathlib.Decide.{ℕ-discrete}
 use native.Mathlib.Omega.{arith}
 use lib.Dec.{T, eqb}
 use lib.ListN.{length, take}
@@ -14,11 +13,10 @@ use borrow.Author.Tests.{eqb-true, ne-eqb, ltb-false}
 use Rattle.sequence.specs.Lists.{each, front}
 use Rattle.sequence.specs.Answers.{Test, test, firstOf, marked, short, Filled, filled}
 use Rattle.sequence.proofs.Lists.{made-length}
-use Rattle.sequence.proofs.Answers.{holding, first-stands, first-passes}
+use Rattle.sequence.proofs.Answers.{holding, rest-passed}
 use Rattle.sequence.proofs.Fronts.{take-front}
 use Rattle.words.specs.Words.{doubleAt, doublesOf, doubleBytes, joined}
 use Rattle.network.specs.Numbers.{Network, sizesHold}
-use Rattle.network.proofs.Tests.{number-size}
 use Rattle.solution_check.specs.Tests.{counted, solutionLong, solutionHolds, solutionTests}
 use Rattle.selector_check.specs.Tests.{dimOf}
 use Rattle.selector_check.proofs.Dims.{dim-few}
@@ -31,22 +29,14 @@ use Rattle.sens_parameters.specs.declared.ServedParameter.the-variants.{Known, 
 use Rattle.sens_parameters.specs.Calls.{servedOf, columnsHold, isCost, somePiecewise, columnsOf, resultOf, ownTests, jacobianNumber, columnsFilled, jacobianCall}
 use Rattle.decoding.specs.Exports.{out, packed}
 use Rattle.decoding.specs.Decoding.{Cells}
-use Rattle.decoding.proofs.Answered.{short-same, last-passed, last-same, size-fails}
+use Rattle.decoding.proofs.Answered.{short-same, last-passed, last-same, size-fails, passed-sizes}
 use Rattle.capi_columns.specs.Columns.{columnOut}
 
 -- ---- tests in front of others
 
--- where no test of a list holds, none of its front does
-front-none : (a b : List Test) → T (marked a) → firstOf (a ++ b) ≡ 0 → firstOf a ≡ 0
-front-none a b m e = go (ℕ-discrete (firstOf a) 0)
-  where
-    go : Dec (firstOf a ≡ 0) → firstOf a ≡ 0
-    go (yes z) = z
-    go (no z) = sym (first-stands a b m z) ∙ e
-
 -- a list with a test that holds gives a number
 pub gives-number : (a : List Test) (n : ℕ) → T (marked a) → (n ≡ 0 → ⊥) → firstOf (a ++ test n true ∷ []) ≡ 0 → ⊥
-gives-number a n m h e = h (sym (holding n true [] refl) ∙ sym (first-passes a (test n true ∷ []) m (front-none a (test n true ∷ []) m e)) ∙ e)
+gives-number a n m h e = h (sym (holding n true [] refl) ∙ rest-passed a (test n true ∷ []) m e)
 
 -- ---- what a column's bytes are
 
@@ -68,13 +58,6 @@ module _ (N : Network) (s : List Float) (i : ℕ) where
   unfolding jacobian each columnWords
   one-long k = made-length _ (dimOf N)
 
-  sized : firstOf (solutionTests false N s) ≡ 0 → sizesHold N ≡ true
-  sized z = go (sizesHold N) refl
-    where
-      go : (b : Bool) → sizesHold N ≡ b → b ≡ true
-      go true q = refl
-      go false q = absurd (omega (arith, z, number-size N (solutionLong N s) (solutionHolds false N s) q))
-
   -- ---- the tests of a served parameter before that of its sheet
 
   abbrev before-room : Served → List Test
@@ -89,9 +72,9 @@ module _ (N : Network) (s : List Float) (i : ℕ) where
 
   -- ---- what number 0 says
 
-  no-test-holds : (x : ServedParameter) (sheet : List Float) → jacobianNumber N s x (i ∷ []) sheet ≡ 0 → firstOf (solutionTests false N s) ≡ 0
-  unfolding jacobianNumber marked
-  no-test-holds x sheet e = front-none (solutionTests false N s) (ownTests N s x (i ∷ []) sheet) tt e
+  sized : (x : ServedParameter) (sheet : List Float) → jacobianNumber N s x (i ∷ []) sheet ≡ 0 → sizesHold N ≡ true
+  unfolding jacobianNumber
+  sized x sheet e = passed-sizes N (solutionLong N s) (solutionHolds false N s) (ownTests N s x (i ∷ []) sheet) e
 
   roomy : (x : ServedParameter) (sheet : List Float) → jacobianNumber N s x (i ∷ []) sheet ≡ 0 → dimOf N ≤ length sheet
   unfolding jacobianNumber marked
@@ -116,7 +99,7 @@ module _ (N : Network) (s : List Float) (i : ℕ) where
       where
         rooms : firstOf (before-room k) ≡ 0 → short (columnsOf N s k (i ∷ [])) cells ≡ short (columnsOf N s k (i ∷ [])) (doublesOf bs)
         rooms z =
-            let few : dimOf N ≤ 6544 = dim-few N (sized (front-none (solutionTests false N s) _ tt z)) in
+            let few : dimOf N ≤ 6544 = dim-few N (passed-sizes N (solutionLong N s) (solutionHolds false N s) _ z) in
             short-same (length cells) (length (doublesOf bs)) (length (columnsOf N s k (i ∷ [])))
             (λ l. omega (arith, made-length (doubleAt bs) (length bs / 8), room .within))
             (λ l. room .enough (length (columnsOf N s k (i ∷ []))) (omega (arith, one-long k)) (omega (arith, made-length (doubleAt bs) (length bs / 8))))
@@ -136,7 +119,7 @@ module _ (N : Network) (s : List Float) (i : ℕ) where
       number = ap (λ (a : Filled Float). a .number) answered ∙ number-is (jacobianNumber N s x (i ∷ []) cells) (resultOf N s x (i ∷ [])) cells
 
       pub passed-size : n ≡ 0 → sizesHold N ≡ true
-      passed-size z = sized (no-test-holds x cells (sym number ∙ z))
+      passed-size z = sized x cells (sym number ∙ z)
 
       pub passed-room : n ≡ 0 → dimOf N ≤ length cells
       passed-room z = roomy x cells (sym number ∙ z)

@@ -12,6 +12,7 @@ use borrow.Author.Tests.{ltb-false, eqb-true}
 use Rattle.sequence.specs.Lists.{front}
 use Rattle.sequence.specs.Answers.{Test, test, firstOf, marked, short, Filled, filled}
 use Rattle.sequence.proofs.Lists.{made-length}
+use Rattle.sequence.proofs.Answers.{front-passed}
 use Rattle.sequence.proofs.Fronts.{take-front}
 use Rattle.words.specs.Words.{doubleAt, doublesOf, doubleBytes, joined}
 use Rattle.network.specs.Numbers.{Network, sizesHold, networkTests}
@@ -24,15 +25,8 @@ use Rattle.selector_check.proofs.Dims.{dim-few}
 use Rattle.sens.specs.Calls.{countFits, firstSheet, firstTests, firstNumber, firstCall}
 use Rattle.decoding.specs.Exports.{out, packed}
 use Rattle.decoding.specs.Decoding.{Cells}
-use Rattle.decoding.proofs.Answered.{short-same, last-passed, front-passed, last-same, size-fails}
+use Rattle.decoding.proofs.Answered.{short-same, last-passed, last-same, size-fails, passed-sizes}
 use Rattle.capi_contraction.specs.Contraction.{written, firstOut}
-
-passed-sizes : (N : Network) (sizes values : Bool) (ts : List Test) → firstOf (networkTests N sizes values ++ ts) ≡ 0 → sizesHold N ≡ true
-passed-sizes N sizes values ts z = go (sizesHold N) refl
-  where
-    go : (b : Bool) → sizesHold N ≡ b → b ≡ true
-    go true e = refl
-    go false e = absurd (omega (arith, z, size-fails N sizes values ts true (rw e) refl))
 
 -- ---- how many words are counted and written, by the mode
 
@@ -118,7 +112,7 @@ module _ (N : Network) (mode : Mode) (S : Selector) (one : elements S ≡ 1) whe
     unfolding firstCall
     first-count =
         rw (ap (λ (a : Filled Float). a .count) e)
-        (count-by mode S (dimOf N) (firstNumber N mode S 1 cells) one (eqb (firstNumber N mode S 1 cells) 0) cells (λ z. few (front-passed (firstTests N mode S 1) tests-marked _ (passed z))))
+        (count-by mode S (dimOf N) (firstNumber N mode S 1 cells) one (eqb (firstNumber N mode S 1 cells) 0) cells (λ z. few (front-passed (firstTests N mode S 1) _ tests-marked (passed z))))
 
     pub first-written : written mode k ≤ length cells
     unfolding firstCall

@@ -8,9 +8,10 @@ use native.Mathlib.Omega.{arith}
 use lib.Dec.{eqb}
 use borrow.Author.Tests.{eqb-true}
 use Rattle.sequence.specs.Answers.{test, firstOf, marked}
+use Rattle.sequence.proofs.Answers.{front-passed}
 use Rattle.network.specs.Layout.{countsOf}
 use Rattle.network.specs.Numbers.{Network, networkTests, sizesHold, wiringHolds, readingsHold}
-use Rattle.decoding.proofs.Answered.{last-passed, front-passed, passed-network}
+use Rattle.decoding.proofs.Answered.{last-passed, passed-network}
 use Rattle.opf_problem.specs.Calls.{Parts, partsOf, Program, shortProgram, Assembled, assembled, assembles, assembleNumber, assembleCall}
 use Rattle.capi_problem.specs.Assembled.{packedBoth, packedProgram, packing}
 use Rattle.capi_problem.proofs.Lengths.{Short, parts-few}
@@ -38,7 +39,7 @@ module _ (N : Network) where
   -- 0 says that the network is accepted, and that every part has room
   pub passed : (s : Program) → assembleNumber N x s ≡ 0 → firstOf (networkTests N true true) ≡ 0
   unfolding assembleNumber marked
-  passed s z = front-passed (networkTests N true true) tt (shortProgram x s) z
+  passed s z = front-passed (networkTests N true true) (test 7 (shortProgram x s) ∷ []) tt z
 
   pub roomy : (s : Program) → assembleNumber N x s ≡ 0 → shortProgram x s ≡ false
   unfolding assembleNumber marked

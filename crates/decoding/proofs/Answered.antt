@@ -13,7 +13,7 @@ use borrow.Author.Tests.{lt-ltb, le-ltb, ltb-false, eqb-true, not-true}
 use Rattle.sequence.specs.Lists.{front, made}
 use Rattle.sequence.specs.Answers.{Test, test, firstOf, marked, short, Filled, filled, fills}
 use Rattle.sequence.proofs.Lists.{and-left, and-right, failed, held as kept, made-length, never}
-use Rattle.sequence.proofs.Answers.{holding, first-stands, first-passes}
+use Rattle.sequence.proofs.Answers.{holding, first-stands, rest-passed}
 use Rattle.words.specs.Words.{doubleAt, doublesOf, joined}
 use Rattle.sequence.proofs.Fronts.{take-front}
 use Rattle.network.specs.Layout.{Few, countsOf}
@@ -62,18 +62,7 @@ short-same a b k f g = go (decLt a k)
 module _ (ts : List Test) (m : T (marked ts)) where
   pub last-passed : (b : Bool) → firstOf (ts ++ test 7 b ∷ []) ≡ 0 → b ≡ false
   last-passed false e = refl
-  last-passed true e = go (ℕ-discrete (firstOf ts) 0)
-    where
-      go : Dec (firstOf ts ≡ 0) → true ≡ false
-      go (yes z) = absurd (omega (arith, e, first-passes ts (test 7 true ∷ []) m z, holding 7 true [] refl))
-      go (no z) = absurd (z (sym (first-stands ts (test 7 true ∷ []) m z) ∙ e))
-
-  pub front-passed : (b : Bool) → firstOf (ts ++ test 7 b ∷ []) ≡ 0 → firstOf ts ≡ 0
-  front-passed b e = go (ℕ-discrete (firstOf ts) 0)
-    where
-      go : Dec (firstOf ts ≡ 0) → firstOf ts ≡ 0
-      go (yes z) = z
-      go (no z) = sym (first-stands ts (test 7 b ∷ []) m z) ∙ e
+  last-passed true e = absurd (omega (arith, rest-passed ts (test 7 true ∷ []) m e, holding 7 true [] refl))
 
   pub last-same : (a b : Bool) → (firstOf ts ≡ 0 → a ≡ b) → firstOf (ts ++ test 7 a ∷ []) ≡ firstOf (ts ++ test 7 b ∷ [])
   last-same a b h = go (ℕ-discrete (firstOf ts) 0)
@@ -150,6 +139,13 @@ one-by true number result sheet bs h = rw (h refl)
 pub size-fails : (N : Network) (sizes values : Bool) (ts : List Test) (ok : Bool) → ok && (sizesHold N && sizes) ≡ false → ok ≡ true → firstOf (networkTests N sizes values ++ ts) ≡ 1
 size-fails N sizes values ts true e z = holding 1 _ _ (rw e)
 size-fails N sizes values ts false e z = never z
+
+pub passed-sizes : (N : Network) (sizes values : Bool) (ts : List Test) → firstOf (networkTests N sizes values ++ ts) ≡ 0 → sizesHold N ≡ true
+passed-sizes N sizes values ts z = go (sizesHold N) refl
+  where
+    go : (b : Bool) → sizesHold N ≡ b → b ≡ true
+    go true e = refl
+    go false e = absurd (omega (arith, z, size-fails N sizes values ts true (rw e) refl))
 
 pub sheet-one : (N : Network) (sizes values : Bool) (further : List Test) (result sheet : List Float) (ok : Bool) (bs : List ℕ) → ok && (sizesHold N && sizes) ≡ false
     → out 1 bs ≡ filledOut ok (fills (firstOf (networkTests N sizes values ++ further)) result sheet) bs

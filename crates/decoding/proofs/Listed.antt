@@ -13,12 +13,13 @@ use Rattle.sequence.specs.Lists.{front}
 use Rattle.sequence.specs.Answers.{Test, test, firstOf, marked}
 use Rattle.sequence.specs.Sheets.{Triplet, rowsOf, colsOf, valuesOf, Laid, laid, lays, room, shortList}
 use Rattle.sequence.proofs.Lists.{made-length}
+use Rattle.sequence.proofs.Answers.{front-passed}
 use Rattle.words.specs.Words.{wordsOf, doublesOf, joined}
 use Rattle.sequence.proofs.Fronts.{take-front}
 use Rattle.network.specs.Numbers.{Network, networkTests, sizesHold}
 use Rattle.decoding.specs.Exports.{outs, laidOut}
 use Rattle.decoding.specs.Decoding.{listRoom, ListCells}
-use Rattle.decoding.proofs.Answered.{last-passed, front-passed, last-same, short-same, size-fails}
+use Rattle.decoding.proofs.Answered.{last-passed, last-same, short-same, size-fails}
 
 -- ---- a list's bytes do not depend on the sheets that it is cut from
 
@@ -85,7 +86,7 @@ module _ (ts : List Test) (m : T (marked ts)) (list : List Triplet) where
 
   -- whatever sheets it is lent, the count is no greater than the list's greatest length
   pub laid-count : (most : ℕ) → (firstOf ts ≡ 0 → length list ≤ most) → (r c : List ℕ) (v : List Float) {n k : ℕ} {r′ c′ : List ℕ} {v′ : List Float} → laid n k r′ c′ v′ ≡ lays (listTested r c v) list r c v → k ≤ most
-  laid-count most small r c v e = rw (ap (λ (a : Laid). a .count) e) (count-of (listTested r c v) list r c v most (λ z. small (front-passed ts m (shortList list r c v) z)))
+  laid-count most small r c v e = rw (ap (λ (a : Laid). a .count) e) (count-of (listTested r c v) list r c v most (λ z. small (front-passed ts (test 7 (shortList list r c v) ∷ []) m z)))
 
 -- ---- sizes that do not hold are refused at once, whatever tests follow
 

@@ -1,8 +1,9 @@
 -- The laws of answers by number: tests that are passed, the one that holds, and what a call leaves. Assumes nothing.
-use mathlib.Core.Path.{_≡_, refl, subst}
+use mathlib.Core.Path.{_≡_, refl, sym, subst, _∙_}
 use mathlib.Core.Bool.{Bool, true, false, cond, not, _&&_}
 use mathlib.Core.List.{List, [], _∷_, _++_}
 use Prim.Native.Nat.{ℕ}
+use native.Mathlib.Decide.{ℕ-discrete}
 use lib.ListN.{length}
 use lib.Dec.{T, eqb}
 use borrow.Author.Tests.{ne-eqb}
@@ -53,6 +54,17 @@ first-passes (t ∷ a) b m h = go (t .holds) refl (first-passes a b (rest-T (not
     go : (x : Bool) → t .holds ≡ x → (firstOf a ≡ 0 → firstOf (a ++ b) ≡ firstOf b) → cond (t .holds) (t .number) (firstOf (a ++ b)) ≡ firstOf b
     go true e ih = absurd (zero-marked (t .number) (rw e at h) (first-T (not (eqb (t .number) 0)) (marked a) m))
     go false e ih = rw e (ih (rw e at h))
+
+-- where none holds, none of the first does, and none of the next
+pub front-passed : (a b : List Test) → T (marked a) → firstOf (a ++ b) ≡ 0 → firstOf a ≡ 0
+front-passed a b m e = go (ℕ-discrete (firstOf a) 0)
+  where
+    go : Dec (firstOf a ≡ 0) → firstOf a ≡ 0
+    go (yes z) = z
+    go (no z) = sym (first-stands a b m z) ∙ e
+
+pub rest-passed : (a b : List Test) → T (marked a) → firstOf (a ++ b) ≡ 0 → firstOf b ≡ 0
+rest-passed a b m e = sym (first-passes a b m (front-passed a b m e)) ∙ e
 
 -- ---- what a call leaves in its sheet
 

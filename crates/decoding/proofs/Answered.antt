@@ -261,8 +261,11 @@ module _ (N : Network) (ok : Bool) (f pg : List ℕ) where
         let l : length (doublesOf pg) ≡ counted N .generators = eqb-true _ _ (and-right (eqb (length (doublesOf f)) (counted N .branches)) _ own-sizes) in
         fits-of 8 pg 256 (and-right (whole 8 f) _ own-wholes) (omega (arith, sized-few N sized .generators, made-length (doubleAt pg) (length pg / 8)))
 
+  pub unsized-network : ok && sizesHold N ≡ false → whole-with ok f pg && sized-with N f pg ≡ false
+  unsized-network = contrary _ _ both
+
   pub unsized-with : {l : Lengths} {A : Arrays} → Read ok N l A → not (l .ok) ≡ true → whole-with ok f pg && sized-with N f pg ≡ false
-  unsized-with r h = contrary _ _ both (r .refused (not-true _ h))
+  unsized-with r h = unsized-network (r .refused (not-true _ h))
 
   pub unsized-flows : {r : Bool} → r ≡ fits 8 f 512 → not r ≡ true → whole-with ok f pg && sized-with N f pg ≡ false
   unsized-flows e h = contrary _ _ flows-fit (failed e h)

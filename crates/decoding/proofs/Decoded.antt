@@ -41,6 +41,17 @@ held f n old l q e = record { room = omega arith; front = rw e (take-made f n ol
 pub whole-of : (k : ℕ) (b : List ℕ) (most : ℕ) → fits k b most ≡ true → whole k b ≡ true
 whole-of k b most e = and-left (whole k b) _ e
 
+-- ---- the greatest lengths of a network's slices
+
+pub wiring-few : (N : Network) → sizesHold N ≡ true → length (N .wiring) ≤ 3033
+wiring-few N e = let l = sized-wiring N e in let f = sized-few N e in omega (arith, l .long, f)
+
+pub readings-few : (N : Network) → sizesHold N ≡ true → length (N .readings) ≤ 8065
+readings-few N e = let l = sized-readings N e in let f = sized-few N e in omega (arith, l .long, f)
+
+pub indexes-few : (N : Network) → sizesHold N ≡ true → length (N .indexes) ≤ 1024
+indexes-few N e = let f = sized-few N e in omega (arith, sized-indexes N e, f)
+
 -- ---- a network's four slices
 
 module _ (w r i k : List ℕ) where
@@ -64,21 +75,13 @@ module _ (w r i k : List ℕ) where
     last = and-right (whole 8 r) _ rest
 
     pub wiring-fits : fits 4 w (length (A .wiring)) ≡ true
-    wiring-fits =
-        let l = sized-wiring network sized in
-        let f = sized-few network sized in
-        fits-of 4 w _ (and-left (whole 4 w) _ all) (omega (arith, g .wiring, l .long, f, made-length (wordAt w) (length w / 4)))
+    wiring-fits = fits-of 4 w _ (and-left (whole 4 w) _ all) (omega (arith, g .wiring, wiring-few network sized, made-length (wordAt w) (length w / 4)))
 
     pub readings-fit : fits 8 r (length (A .readings)) ≡ true
-    readings-fit =
-        let l = sized-readings network sized in
-        let f = sized-few network sized in
-        fits-of 8 r _ (and-left (whole 8 r) _ rest) (omega (arith, g .readings, l .long, f, made-length (doubleAt r) (length r / 8)))
+    readings-fit = fits-of 8 r _ (and-left (whole 8 r) _ rest) (omega (arith, g .readings, readings-few network sized, made-length (doubleAt r) (length r / 8)))
 
     pub indexes-fit : fits 4 i (length (A .indexes)) ≡ true
-    indexes-fit =
-        let f = sized-few network sized in
-        fits-of 4 i _ (and-left (whole 4 i) _ last) (omega (arith, g .indexes, sized-indexes network sized, f, made-length (wordAt i) (length i / 4)))
+    indexes-fit = fits-of 4 i _ (and-left (whole 4 i) _ last) (omega (arith, g .indexes, indexes-few network sized, made-length (wordAt i) (length i / 4)))
 
     pub coefficients-fit : fits 8 k (length (A .coefficients)) ≡ true
     coefficients-fit =

@@ -1,6 +1,6 @@
 -- The terms in two arrays: the arrays' lengths, their fronts, and the call on the fronts.
--- Main results: `long`, `index-more`, `coefficient-more`, `apart`, `called`. Assumes nothing.
-use Prim.Native.Nat.{ℕ, suc, _+_, _≤_, _<_}
+-- Main results: `long`, `indexes-length`, `index-more`, `coefficient-more`, `apart`, `called`, `array-called`. Assumes nothing.
+use Prim.Native.Nat.{ℕ, zero, suc, _+_, _≤_, _<_}
 use native.Mathlib.Numerals.{add-one}
 use native.Mathlib.Omega.{arith}
 use mathlib.Core.Path.{_≡_, refl, sym, ap, _∙_}
@@ -12,7 +12,7 @@ use denote.Struct.Laws as LL
 use lib.Dec.{eqb, leb}
 use lib.Ieee.{Float}
 use lib.ListN.{length, getD, set, take, drop, drop-of-length-le, length-map}
-use lib.Seq.{sets, sets-eq, take-at, drop-cons}
+use lib.Seq.{sets, sets-eq, take-at, take-take, drop-cons}
 use borrow.Author.Tests.{leb-true, leb-false}
 use Rattle.float64.specs.Values.{sheetLimit}
 use Rattle.sequence.specs.Answers.{filled}
@@ -23,7 +23,7 @@ use Rattle.model.specs.Quantities.{evaluate}
 use Rattle.model.proofs.Calls.{element-refused}
 use Rattle.terms.specs.declared.Term.{Term}
 use Rattle.terms.specs.declared.Columns.{Columns}
-use Rattle.terms.specs.Terms.{none, indexesOf, coefficientsOf, networkOf, Apart, columnsCall}
+use Rattle.terms.specs.Terms.{none, indexesOf, coefficientsOf, networkOf, arrayCall, Apart, columnsCall}
 use Rattle.terms.proofs.Columns as T
 use Rattle.terms.proofs.Columns.Laws as T′
 
@@ -31,7 +31,7 @@ use Rattle.terms.proofs.Columns.Laws as T′
 pub long : (c : Columns) (vs : List Val) → Is T.the-row c vs → (length (c .indexes) ≡ 1024) × (length (c .coefficients) ≡ 1024)
 long c vs is = let fs = LL.owed T.the-type T′.the-laws c vs is in (sym (length-map (c .indexes) (λ v. v)) ∙ fs .0 .1 .0 .1, sym (length-map (c .coefficients) (λ v. v)) ∙ fs .1 .0 .1 .0 .1)
 
-indexes-length : (ts : List Term) → length (indexesOf ts) ≡ length ts
+pub indexes-length : (ts : List Term) → length (indexesOf ts) ≡ length ts
 unfolding indexesOf
 indexes-length [] = refl
 indexes-length (t ∷ ts) = ap suc (indexes-length ts)
@@ -86,3 +86,28 @@ pub called : (w : List ℕ) (r : List Float) (ts : List Term) (c : Columns) (q :
 unfolding columnsCall
 called w r ts c q f pg sheet h true e = rw (e, h (leb-true _ _ e) .0, h (leb-true _ _ e) .1)
 called w r ts c q f pg sheet h false e = rw e (refused (networkOf w r ts) (rw (indexes-length ts) (leb-false _ _ e)) q f pg sheet)
+
+-- ---- the first n of an array
+
+indexes-take : (n : ℕ) (ts : List Term) → indexesOf (take n ts) ≡ take n (indexesOf ts)
+unfolding indexesOf
+indexes-take zero ts = refl
+indexes-take (suc n) [] = refl
+indexes-take (suc n) (t ∷ ts) = ap (λ (is : List ℕ). t .index ∷ is) (indexes-take n ts)
+
+coefficients-take : (n : ℕ) (ts : List Term) → coefficientsOf (take n ts) ≡ take n (coefficientsOf ts)
+unfolding coefficientsOf
+coefficients-take zero ts = refl
+coefficients-take (suc n) [] = refl
+coefficients-take (suc n) (t ∷ ts) = ap (λ (ks : List Float). t .coefficient ∷ ks) (coefficients-take n ts)
+
+-- the call on the fronts of n places is the call on the first n terms
+pub array-called : (w : List ℕ) (r : List Float) (ts : List Term) (c : Columns) (n q : ℕ) (f pg sheet : List Float) → length ts ≡ 1024 → Apart ts c → (b : Bool) → leb n 1024 ≡ b
+    → columnsCall w r c n q f pg sheet ≡ arrayCall w r ts n q f pg sheet
+unfolding columnsCall arrayCall
+array-called w r ts c n q f pg sheet s h false e = rw e
+array-called w r ts c n q f pg sheet s h true e =
+    let a = h (omega (arith, s)) in
+    let l : n ≤ 1024 = leb-true n 1024 e in
+    let p = sym (take-take n (length ts) (c .indexes) (omega (arith, s, l))) ∙ ap (take n) (a .0) ∙ sym (indexes-take n ts) in
+    let k = sym (take-take n (length ts) (c .coefficients) (omega (arith, s, l))) ∙ ap (take n) (a .1) ∙ sym (coefficients-take n ts) in rw (e, p, k)

@@ -1,5 +1,5 @@
 -- A network whose terms are a slice of records: their indexes and their coefficients, in order.
--- Main definitions: `indexesOf`, `coefficientsOf`, `networkOf`, `Apart`. Assumes nothing.
+-- Main definitions: `indexesOf`, `coefficientsOf`, `networkOf`, `arrayCall`, `Apart`. Assumes nothing.
 use Prim.Native.Nat.{ℕ, _≤_}
 use mathlib.Core.Path.{_≡_}
 use mathlib.Core.Bool.{cond}
@@ -28,6 +28,10 @@ coefficientsOf (t ∷ ts) = t .coefficient ∷ coefficientsOf ts
 -- the network of the terms' indexes and coefficients
 abbrev pub networkOf : List ℕ → List Float → List Term → Network
 networkOf w r ts = record { wiring = w; readings = r; indexes = indexesOf ts; coefficients = coefficientsOf ts }
+
+-- the call on the first n terms of an array: more than it has are a wrong length, number 1
+unfoldable pub arrayCall : List ℕ → List Float → List Term → ℕ → ℕ → List Float → List Float → List Float → Filled Float
+arrayCall w r ts n q f pg sheet = cond (leb n 1024) (evaluateCall (networkOf w r (take n ts)) q f pg sheet) (filled 1 0 sheet)
 
 -- ---- on the way: the terms in two arrays
 

@@ -5,7 +5,7 @@ ghost use mathlib.Core.Path.{_≡_};
 ghost use Prim.Native.Nat.{ℕ, _≤_};
 ghost use Rattle.sequence.specs.Answers.{filled};
 ghost use Rattle.model.specs.Calls.{evaluateCall};
-ghost use Rattle.terms.specs.Terms.{putAt, Apart, columnsCall, networkOf};
+ghost use Rattle.terms.specs.Terms.{putAt, Apart, columnsCall, networkOf, arrayCall};
 
 pub struct Term {
     pub index: u32,
@@ -96,6 +96,13 @@ fn evaluate_columns(
     )
 }
 
+// The terms of an array, taken apart: the array is lent as a slice.
+fn array_apart(terms: [Term; 1024]) -> Columns
+    ensures { λ r. ⌜ Apart terms r ⌝ }
+{
+    take_apart(&terms)
+}
+
 // A linear row's value at flows and powers.
 pub fn evaluate(
     wiring: &[u32],
@@ -118,4 +125,20 @@ pub fn evaluate(
         pg,
         out,
     )
+}
+
+// The same, the terms being the first n of an array: a caller makes no reference to a record.
+pub fn evaluate_array(
+    wiring: &[u32],
+    readings: &[f64],
+    terms: [Term; 1024],
+    n: usize,
+    row: usize,
+    f: &[f64],
+    pg: &[f64],
+    out: &mut [f64],
+) -> Answer
+    ensures { λ a. ⌜ filled (a .number) (a .count) (now (out .exit)) ≡ arrayCall (now (wiring .entry)) (now (readings .entry)) terms n row (now (f .entry)) (now (pg .entry)) (now (out .entry)) ⌝ }
+{
+    evaluate_columns(wiring, readings, array_apart(terms), n, row, f, pg, out)
 }

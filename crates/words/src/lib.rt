@@ -21,7 +21,7 @@ fn byte(b: &[u8], i: usize) -> u32
 }
 
 // The word of four bytes.
-fn word32(b: &[u8], at: usize) -> u32
+pub fn word32(b: &[u8], at: usize) -> u32
     requires { ⌜ at + 4 ≤ length (now b) ⌝ }
     ensures { λ r. ⌜ r ≡ at32 (now (b .entry)) at ⌝ }
 {
@@ -29,7 +29,7 @@ fn word32(b: &[u8], at: usize) -> u32
 }
 
 // The word of eight bytes.
-fn word64(b: &[u8], at: usize) -> u64
+pub fn word64(b: &[u8], at: usize) -> u64
     requires { ⌜ at + 8 ≤ length (now b) ⌝ }
     ensures { λ r. ⌜ r ≡ at64 (now (b .entry)) at ⌝ }
 {

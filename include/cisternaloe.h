@@ -73,6 +73,14 @@ uint64_t capi_network_number(CISTERNALOE_NETWORK_BYTES);
  * that isn't there is 5. */
 uint64_t capi_row_kind(CISTERNALOE_NETWORK_BYTES, size_t row);
 
+/* ---- libcapi_terms.a: a linear row's value, on bytes, the terms as records */
+
+/* `capi_evaluate` with the terms as one slice of records, twelve bytes each: the index, four bytes, and the coefficient,
+ * eight. Bytes that are no whole number of records are number 1. */
+uint64_t capi_evaluate_terms(const uint8_t *wiring, size_t wiring_length, const uint8_t *readings,
+    size_t readings_length, const uint8_t *terms, size_t terms_length, size_t row, const uint8_t *f, size_t f_length,
+    const uint8_t *pg, size_t pg_length, uint8_t *sheet, size_t sheet_length);
+
 /* ---- libcapi_sens.a: the calls of the derivatives */
 
 /* The KKT matrix at the snapped solution as triplets, at most 26m + 10n + 9k + 5S + 2R + 4T + 2q of them, in three

@@ -3,10 +3,11 @@
 use std::env;
 use std::path::PathBuf;
 
-/// `libNAME.a` each; exports of the model, of the matrix, of site changes, of the program, of the
+/// `libNAME.a` each; exports of the model, of its terms as records, of the matrix, of site changes, of the program, of the
 /// parameters' columns, of selectors, contraction and unit scales, and of the last three on bytes.
-const LIBRARIES: [&str; 8] = [
+const LIBRARIES: [&str; 9] = [
     "capi",
+    "capi_terms",
     "capi_sens",
     "capi_change",
     "capi_problem",

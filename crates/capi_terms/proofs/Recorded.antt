@@ -63,6 +63,9 @@ module _ (w r t : List ℕ) where
 pub same-network : {w w′ : List ℕ} {r r′ : List Float} {t t′ : List Term} → w ≡ w′ → r ≡ r′ → t ≡ t′ → networkOf w r t ≡ networkOf w′ r′ t′
 same-network p q s = rw (p, q, s)
 
+pub same-term : {i i′ : ℕ} {x x′ : Float} → i ≡ i′ → x ≡ x′ → _≡_ {A = Term} (record { index = i; coefficient = x }) (record { index = i′; coefficient = x′ })
+same-term p q j = record { index = p j; coefficient = q j }
+
 -- the call on the first n terms of an array, n within it
 pub array-front : (w : List ℕ) (r : List Float) (ts : List Term) (n q : ℕ) (f pg sheet : List Float) → n ≤ 1024 → arrayCall w r ts n q f pg sheet ≡ evaluateCall (networkOf w r (take n ts)) q f pg sheet
 unfolding arrayCall

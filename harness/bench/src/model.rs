@@ -4,7 +4,7 @@ use crate::case::{double_bytes, doubles, hold, on, solution, ByteLists, Case};
 use crate::timing::{alone, side_by_side, Times};
 use crate::{Form, Table};
 use exports::{
-    capi_current_fixed_withdrawal, capi_current_flow_offset, capi_evaluate, capi_generator_cost,
+    capi_current_fixed_withdrawal, capi_current_flow_offset, capi_evaluate, capi_evaluate_terms, capi_generator_cost,
     capi_network_number, capi_network_withdrawal, capi_phase_withdrawal, capi_row_kind, capi_shed_cap,
     capi_susceptance_coo,
 };
@@ -70,6 +70,25 @@ fn evaluate(case: &Case) -> Times {
     )
 }
 
+/// The same with the terms as records.
+fn evaluate_terms(case: &Case) -> Times {
+    let row = case.linear_rows() - 1;
+    let (f, pg) = (solution(case.size.m), solution(case.size.k));
+    let (flows, powers) = (double_bytes(&f), double_bytes(&pg));
+    let (wiring, readings) = (&case.bytes.wiring, &case.bytes.readings);
+    let pairs = case.words.term_index.iter().zip(&case.words.term_coefficient);
+    let records: Vec<u8> = pairs.flat_map(|(i, x)| [&i.to_le_bytes()[..], &x.to_le_bytes()].concat()).collect();
+    one(
+        |out, outl| unsafe {
+            capi_evaluate_terms(
+                wiring.as_ptr(), wiring.len(), readings.as_ptr(), readings.len(), records.as_ptr(), records.len(),
+                row, flows.as_ptr(), flows.len(), powers.as_ptr(), powers.len(), out, outl,
+            )
+        },
+        || black_box(&case.original).evaluate(black_box(row), black_box(&f), black_box(&pg)),
+    )
+}
+
 fn row_kind(case: &Case) -> Times {
     let row = case.linear_rows() - 1;
     let due = 256 * u64::from(case.original.row_kind(row));
@@ -128,6 +147,7 @@ pub fn rows(table: &mut Table, cases: &[Case]) {
     table.call("generator_cost, quadratic", Form::Bytes, "e", cases, |case| generator_cost(case, false));
     table.call("generator_cost, piecewise", Form::Bytes, "e", cases, |case| generator_cost(case, true));
     table.call("evaluate", Form::Bytes, "e", cases, evaluate);
+    table.call("evaluate, terms as records", Form::Bytes, "e", cases, evaluate_terms);
     table.call("row_kind", Form::Bytes, "e", cases, row_kind);
     table.call("phase_withdrawal", Form::Bytes, "", cases, |case| {
         let export = |out, outl| unsafe { on!(capi_phase_withdrawal, case.bytes, out, outl) };

@@ -3,7 +3,7 @@
 //! An input slice ends where the next page may not be read. An output is lent from the
 //! middle of a buffer of random bytes, so that a byte written outside its place shows.
 
-use crate::paper::Lent;
+use crate::paper::{self, Lent};
 use crate::random::Rng;
 
 #[cfg(target_os = "linux")]
@@ -69,6 +69,18 @@ pub fn generator_cost(net: Network, generator: usize, power_bits: u64, out: Out)
 
 pub fn evaluate(net: Network, row: usize, f: In, pg: In, out: Out) -> u64 {
     call!(capi_evaluate, net, row, f.at, f.length, pg.at, pg.length, out.at, out.length)
+}
+
+pub fn evaluate_terms(net: Network, terms: In, row: usize, f: In, pg: In, out: Out) -> u64 {
+    let (w, r, t) = (net.wiring, net.readings, terms);
+    // The memory behind each slice is a `Memory`'s, alive and of at least that length.
+    let answer = unsafe {
+        exports::capi_evaluate_terms(
+            w.at, w.length, r.at, r.length, t.at, t.length, row, f.at, f.length, pg.at, pg.length,
+            out.at, out.length,
+        )
+    };
+    broken::record(terms, out, answer)
 }
 
 pub fn row_kind(net: Network, row: usize) -> u64 {
@@ -185,6 +197,14 @@ mod broken {
     pub fn count(answer: u64) -> u64 {
         if cfg!(feature = "broken_count") && answer % 256 == 0 {
             return answer + 256;
+        }
+        answer
+    }
+
+    /// A slice of records with some bytes more is taken for a whole one.
+    pub fn record(terms: In, out: Out, answer: u64) -> u64 {
+        if cfg!(feature = "broken_record") && answer == 1 && terms.length % 12 != 0 && out.length >= 8 {
+            return 256;
         }
         answer
     }
@@ -371,6 +391,8 @@ const SHEETS: usize = 9;
 /// All memory that calls are lent.
 pub struct Memory {
     network: [Slot; 4],
+    /// The network's terms once more, as records.
+    records: Slot,
     lists: [Slot; LISTS],
     sheets: [Sheet; SHEETS],
     pool: Vec<u8>,
@@ -383,6 +405,7 @@ impl Memory {
         let sheet = |_| Sheet { buffer: Vec::with_capacity(POOL), length: 0, from: 0 };
         Memory {
             network: [Slot::new(), Slot::new(), Slot::new(), Slot::new()],
+            records: Slot::new(),
             lists: [Slot::new(), Slot::new()],
             sheets: [(); SHEETS].map(sheet),
             pool,
@@ -393,6 +416,7 @@ impl Memory {
         for (slot, bytes) in self.network.iter_mut().zip(lent.slices()) {
             slot.fill(bytes);
         }
+        self.records.fill(&paper::records(lent));
     }
 
     pub fn fill_list(&mut self, list: usize, bytes: &[u8]) {
@@ -417,6 +441,10 @@ impl Memory {
             term_index: self.network[2].lend(),
             term_coefficient: self.network[3].lend(),
         }
+    }
+
+    pub fn records(&self) -> In {
+        self.records.lend()
     }
 
     pub fn list(&self, list: usize) -> In {
@@ -464,7 +492,7 @@ impl Memory {
     /// Tells the watch which memory the next call is lent.
     #[cfg(target_os = "linux")]
     pub fn watch(&self, name: &'static str, index: usize, bits: u64) {
-        let slots = self.network.iter().chain(&self.lists);
+        let slots = self.network.iter().chain([&self.records]).chain(&self.lists);
         watch::note_call(name, index, bits, slots.map(|slot| (slot.start() as usize, slot.length)));
     }
 

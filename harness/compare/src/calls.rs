@@ -255,6 +255,11 @@ fn of_program(shape: &Shape) -> Vec<(usize, usize)> {
     shape.program_bounds().to_vec()
 }
 
+fn evaluated(site: &Site, args: &Args) -> Answer {
+    let (f, pg) = (paper::doubles(&args.lists[0]), paper::doubles(&args.lists[1]));
+    one(site.oracle().evaluate(args.index, &f, &pg))
+}
+
 pub static OPS: &[Op] = &[
     Op {
         name: "network_number",
@@ -324,14 +329,27 @@ pub static OPS: &[Op] = &[
         numbers: &[0, 1, 2, 3, 5, 7],
         rounds: 3,
         room: Room::Counts(one_word),
-        answer: |site, args| {
-            let (f, pg) = (paper::doubles(&args.lists[0]), paper::doubles(&args.lists[1]));
-            one(site.oracle().evaluate(args.index, &f, &pg))
-        },
+        answer: evaluated,
         invoke: |memory, args| {
             let out = memory.sheet(0);
             let (f, pg) = (memory.list(0), memory.list(1));
             abi::evaluate(memory.network(), args.index, f, pg, out)
+        },
+    },
+    Op {
+        name: "evaluate_terms",
+        index: Some(Count::Rows),
+        lists: &[("f", Length::Of(Count::Branches)), ("pg", Length::Of(Count::Generators))],
+        raw: false,
+        sheets: &[("out", Word::F64)],
+        numbers: &[0, 1, 2, 3, 5, 7],
+        rounds: 3,
+        room: Room::Counts(one_word),
+        answer: evaluated,
+        invoke: |memory, args| {
+            let out = memory.sheet(0);
+            let (f, pg) = (memory.list(0), memory.list(1));
+            abi::evaluate_terms(memory.network(), memory.records(), args.index, f, pg, out)
         },
     },
     Op {

@@ -40,6 +40,7 @@ pub fn mark_call(
         "row_kind" if expected.number == 0 => mark_row_kind(site, args.index, cover),
         "generator_cost" => mark_cost(site, args, expected.number, cover),
         "evaluate" => mark_evaluate(op, site, args, expected.number, cover),
+        "evaluate_terms" if expected.number == 1 => mark_records(site, cover),
         "susceptance_coo" if expected.number == 0 => mark_list(site, &expected.fronts, cover),
         _ => {}
     }
@@ -183,6 +184,15 @@ fn mark_evaluate(op: &Op, site: &Site, args: &Args, number: u8, cover: &mut Cove
             (true, true) => Mark::RowOfBoth,
         });
     }
+}
+
+fn mark_records(site: &Site, cover: &mut Coverage) {
+    let length = paper::records(&site.lent).len();
+    let terms = paper::written_counts(&site.lent).map(|counts| counts[6]);
+    let off = |by: u64| terms.map_or(false, |terms| length as u64 == 12 * terms.wrapping_add(by));
+    cover.hit_if(Mark::RecordShort, off(u64::MAX));
+    cover.hit_if(Mark::RecordLong, off(1));
+    cover.hit_if(Mark::RecordRagged, length % 12 != 0);
 }
 
 fn mark_list(site: &Site, fronts: &[Front], cover: &mut Coverage) {

@@ -243,8 +243,17 @@ export!(capi_generator_cost(j: usize, bits: u64, out: *mut u8, length: usize) le
     Ok(put(&[site.cost(j, power)], out, length))
 }));
 
-export!(capi_evaluate(row: usize, f: Pointer, fl: usize, pg: Pointer, pgl: usize, out: *mut u8, length: usize) lent, site => {
-    let (f, pg) = (f64s(from_raw_parts(f, fl)), f64s(from_raw_parts(pg, pgl)));
+type Lists<'a> = [&'a [u8]; 2];
+
+unsafe fn evaluated(
+    lent: [&[u8]; 4],
+    site: Result<Site, u64>,
+    row: usize,
+    lists: Lists,
+    out: *mut u8,
+    length: usize,
+) -> Result<u64, u64> {
+    let (f, pg) = (f64s(lists[0]), f64s(lists[1]));
     match (site, f, pg) {
         (Err(1), ..) | (_, None, _) | (_, _, None) => Err(1),
         (Err(number), Some(f), Some(pg)) => {
@@ -274,7 +283,33 @@ export!(capi_evaluate(row: usize, f: Pointer, fl: usize, pg: Pointer, pgl: usize
             }
         }
     }
+}
+
+export!(capi_evaluate(row: usize, f: Pointer, fl: usize, pg: Pointer, pgl: usize, out: *mut u8, length: usize) lent, site => {
+    evaluated(lent, site, row, [from_raw_parts(f, fl), from_raw_parts(pg, pgl)], out, length)
 });
+
+/// Records of twelve bytes are an index and a coefficient each; a slice that has other bytes too gives a
+/// ragged slice of coefficients.
+#[no_mangle]
+#[allow(clippy::too_many_arguments)]
+pub unsafe extern "C" fn capi_evaluate_terms(
+    w: Pointer, wl: usize, r: Pointer, rl: usize, t: Pointer, tl: usize,
+    row: usize, f: Pointer, fl: usize, pg: Pointer, pgl: usize, out: *mut u8, length: usize,
+) -> u64 {
+    let (mut index, mut coefficient) = (Vec::new(), Vec::new());
+    for record in from_raw_parts(t, tl).chunks(12) {
+        let (first, rest) = record.split_at(record.len().min(4));
+        index.extend_from_slice(first);
+        coefficient.extend_from_slice(rest);
+    }
+    if tl % 12 != 0 {
+        coefficient.resize(coefficient.len() / 8 * 8 + 1, 0);
+    }
+    let lent = [from_raw_parts(w, wl), from_raw_parts(r, rl), &index[..], &coefficient[..]];
+    let lists = [from_raw_parts(f, fl), from_raw_parts(pg, pgl)];
+    flat(evaluated(lent, Site::read(lent), row, lists, out, length))
+}
 
 export!(capi_row_kind(row: usize) lent, site => site.and_then(|site| {
     if row >= site.q {

@@ -410,6 +410,18 @@ pub fn doubles(bytes: &[u8]) -> Vec<f64> {
     (0..bytes.len() / 8).map(|place| double(bytes, place)).collect()
 }
 
+/// The terms as records of twelve bytes, index and coefficient. Where the two slices have not as many whole
+/// words there are some bytes more, which make no record: number 1 holds of both forms.
+pub fn records(lent: &Lent) -> Vec<u8> {
+    let (index, coefficient) = (lent.term_index.chunks_exact(4), lent.term_coefficient.chunks_exact(8));
+    let ragged = index.len() != coefficient.len()
+        || !index.remainder().is_empty()
+        || !coefficient.remainder().is_empty();
+    let more = if ragged { 1 + lent.total() % 11 } else { 0 };
+    let pairs = index.zip(coefficient);
+    pairs.flat_map(|(index, coefficient)| [index, coefficient].concat()).chain(vec![0; more]).collect()
+}
+
 pub fn bytes_of_words(words: &[u32]) -> Vec<u8> {
     words.iter().flat_map(|word| word.to_le_bytes()).collect()
 }

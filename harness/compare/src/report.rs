@@ -106,6 +106,9 @@ marks! {
         DispatchLong => "pg one long: refused",
         FlowRagged => "f not whole words: refused",
         DispatchRagged => "pg not whole words: refused",
+        RecordShort => "one record short: refused",
+        RecordLong => "one record long: refused",
+        RecordRagged => "not whole records: refused",
     }
     "indexes" {
         IndexFirst => "first: accepted",

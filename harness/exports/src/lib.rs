@@ -65,6 +65,12 @@ exports! {
     capi_network_number(bytes) -> u64;
     capi_row_kind(bytes, row: usize) -> u64;
 
+    // capi_terms
+    capi_evaluate_terms(
+        wiring: &[u8], readings: &[u8], terms: &[u8], row: usize, f: &[u8], pg: &[u8],
+        sheet: &mut [u8]
+    ) -> u64;
+
     // capi_sens
     sens_kkt_triplets(
         words, solution: &[f64], rows: &mut [u32], cols: &mut [u32], values: &mut [f64]

@@ -7,7 +7,8 @@ use native.Mathlib.Omega.{arith}
 use lib.Ieee.{Float, binary64, toBits}
 use lib.ListN.{length, getD, set, take, length-append}
 use lib.Seq.{sets, take-suc, length-take-le}
-use Rattle.sequence.specs.Lists.{front}
+use Rattle.sequence.specs.Lists.{made, front}
+use Rattle.sequence.proofs.Lists.{made-length}
 use Rattle.sequence.proofs.Fronts.{front-more}
 use Rattle.words.specs.Words.{bytesOf, joined, doubleBytes}
 
@@ -34,6 +35,14 @@ module _ {A : Type 0} where
   joined-turn g k w xs i d old out bs out′ h l e q s =
       let z : length (joined g (take i xs)) ≡ k * i = joined-length g k w (take i xs) ∙ ap (λ (j : ℕ). k * j) (length-take-le i xs (omega arith)) in
       rw (s, q, e, joined-more g xs i d) (front-more (joined g (take i xs)) (g (getD xs i d)) old (k * i) z (rw w l))
+
+  -- the same where the elements are f's values
+  pub joined-made : (g : A → List ℕ) (k : ℕ) → ((x : A) → length (g x) ≡ k) → (f : ℕ → A) (i : ℕ) (old out out′ : List ℕ)
+      → k * i + k ≤ length old → out ≡ front (joined g (made f i)) old → out′ ≡ sets out (k * i) (g (f i)) → out′ ≡ front (joined g (made f (i + 1))) old
+  unfolding joined made
+  joined-made g k w f i old out out′ l e s =
+      let z : length (joined g (made f i)) ≡ k * i = joined-length g k w (made f i) ∙ ap (λ (j : ℕ). k * j) (made-length f i) in
+      rw (s, e, add-one, joined-append, append-nil) (front-more (joined g (made f i)) (g (f i)) old (k * i) z (rw w l))
 
 pub bytes-length : (k v : ℕ) → length (bytesOf k v) ≡ k
 bytes-length zero v = refl

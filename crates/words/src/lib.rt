@@ -87,7 +87,7 @@ pub fn decode_doubles(bytes: &[u8], n: usize, into: &mut [f64])
 }
 
 // The k lowest bytes of a number, from a place on.
-fn put(out: &mut [u8], at: usize, k: usize, v: u64)
+pub fn put(out: &mut [u8], at: usize, k: usize, v: u64)
     requires { ⌜ at + k ≤ length (now out) ⌝ }
     ensures { λ _. ⌜ now (out .exit) ≡ sets (now (out .entry)) at (bytesOf k v) ⌝ }
 {

@@ -132,6 +132,15 @@ uint32_t site_run_changes(const uint32_t *wiring, size_t wiring_length, double *
     const uint32_t *changes, size_t changes_length, uint32_t *numbers, size_t numbers_length, uint32_t *counted,
     size_t counted_length);
 
+/* The same on bytes, twelve for a change and four for each number and count: a row of `capi_change` calls, each on the
+ * bytes that the last one left. So a ragged slice of wiring, readings, terms or solution refuses each change by 1. */
+uint32_t capi_run_changes(const uint8_t *wiring, size_t wiring_length, uint8_t *readings, size_t readings_length,
+    const uint8_t *term_index, size_t term_index_length, const uint8_t *term_coefficient,
+    size_t term_coefficient_length, const uint8_t *solution, size_t solution_length, uint8_t *rows,
+    size_t rows_length, uint8_t *cols, size_t cols_length, uint8_t *values, size_t values_length,
+    const uint8_t *changes, size_t changes_length, uint8_t *numbers, size_t numbers_length, uint8_t *counted,
+    size_t counted_length);
+
 /* ---- libcapi_problem.a: the calls of the program */
 
 /* The program min 1/2 x'Px + q'x, Ax + s = b: P's and A's triplets, q, b, the cones' sizes. The answer is number +

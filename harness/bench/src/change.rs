@@ -1,10 +1,10 @@
 //! An accepted site change by the typed export and by the bytes' one, and a run of changes, beside the original
 //! with the reading set in place: its system made anew, with its list.
 
-use crate::case::{ByteLists, Case, WordLists};
+use crate::case::{word_bytes, words, ByteLists, Case, WordLists};
 use crate::timing::{side_by_side, Times};
 use crate::{Form, Table};
-use exports::{capi_change, site_change, site_run_changes};
+use exports::{capi_change, capi_run_changes, site_change, site_run_changes};
 use oracle::{Differentiable, Oracle, Solved, Triplets};
 use std::hint::black_box;
 
@@ -155,8 +155,43 @@ fn run(case: &Case) -> Times {
     )
 }
 
+/// The same on bytes.
+fn run_by_bytes(case: &Case) -> Times {
+    let (net, s) = (&case.bytes, &case.sheet_bytes);
+    let (mut readings, mut out) = (net.readings.clone(), ByteLists::of_bytes(case.most_triplets()));
+    let (mut turns, mut changed) = (Turns::of(case), Changed::of(case));
+    let changes = word_bytes(&(0..RUN).flat_map(|_| turns.words()).collect::<Vec<u32>>());
+    let (mut numbers, mut counted) = ([u8::MAX; 4 * RUN], [u8::MAX; 4 * RUN]);
+    let mut port = |out: &mut ByteLists, numbers: &mut [u8], counted: &mut [u8]| {
+        let answer = unsafe {
+            capi_run_changes(
+                net.wiring.as_ptr(), net.wiring.len(), readings.as_mut_ptr(), readings.len(),
+                net.term_index.as_ptr(), net.term_index.len(),
+                net.term_coefficient.as_ptr(), net.term_coefficient.len(), s.as_ptr(), s.len(),
+                out.rows.as_mut_ptr(), out.rows.len(), out.cols.as_mut_ptr(), out.cols.len(),
+                out.values.as_mut_ptr(), out.values.len(), changes.as_ptr(), changes.len(),
+                numbers.as_mut_ptr(), numbers.len(), counted.as_mut_ptr(), counted.len(),
+            )
+        };
+        assert_eq!(black_box(answer), 0);
+    };
+    port(&mut out, &mut numbers, &mut counted);
+    assert_eq!((words(&numbers), words(&counted)), (vec![0; RUN], vec![changed.count as u32; RUN]));
+    let lists: Vec<Triplets> = (0..RUN).map(|_| changed.next()).collect();
+    out.hold(&lists[RUN - 1]);
+    side_by_side(
+        || port(&mut out, &mut numbers, &mut counted),
+        || {
+            for _ in 0..RUN {
+                black_box(changed.next());
+            }
+        },
+    )
+}
+
 pub fn rows(table: &mut Table, cases: &[Case]) {
     table.call("change", Form::Words, "k", cases, by_words);
     table.call("change", Form::Bytes, "k", cases, by_bytes);
     table.call("change, a run of 16", Form::Words, "k", cases, run);
+    table.call("change, a run of 16", Form::Bytes, "k", cases, run_by_bytes);
 }

@@ -260,6 +260,23 @@ fn evaluated(site: &Site, args: &Args) -> Answer {
     one(site.oracle().evaluate(args.index, &f, &pg))
 }
 
+const EVALUATE: Op = Op {
+    name: "evaluate",
+    index: Some(Count::Rows),
+    lists: &[("f", Length::Of(Count::Branches)), ("pg", Length::Of(Count::Generators))],
+    raw: false,
+    sheets: &[("out", Word::F64)],
+    numbers: &[0, 1, 2, 3, 5, 7],
+    rounds: 3,
+    room: Room::Counts(one_word),
+    answer: evaluated,
+    invoke: |memory, args| {
+        let out = memory.sheet(0);
+        let (f, pg) = (memory.list(0), memory.list(1));
+        abi::evaluate(memory.network(), args.index, f, pg, out)
+    },
+};
+
 pub static OPS: &[Op] = &[
     Op {
         name: "network_number",
@@ -320,37 +337,15 @@ pub static OPS: &[Op] = &[
             abi::generator_cost(memory.network(), args.index, args.bits, out)
         },
     },
-    Op {
-        name: "evaluate",
-        index: Some(Count::Rows),
-        lists: &[("f", Length::Of(Count::Branches)), ("pg", Length::Of(Count::Generators))],
-        raw: false,
-        sheets: &[("out", Word::F64)],
-        numbers: &[0, 1, 2, 3, 5, 7],
-        rounds: 3,
-        room: Room::Counts(one_word),
-        answer: evaluated,
-        invoke: |memory, args| {
-            let out = memory.sheet(0);
-            let (f, pg) = (memory.list(0), memory.list(1));
-            abi::evaluate(memory.network(), args.index, f, pg, out)
-        },
-    },
+    EVALUATE,
     Op {
         name: "evaluate_terms",
-        index: Some(Count::Rows),
-        lists: &[("f", Length::Of(Count::Branches)), ("pg", Length::Of(Count::Generators))],
-        raw: false,
-        sheets: &[("out", Word::F64)],
-        numbers: &[0, 1, 2, 3, 5, 7],
-        rounds: 3,
-        room: Room::Counts(one_word),
-        answer: evaluated,
         invoke: |memory, args| {
             let out = memory.sheet(0);
             let (f, pg) = (memory.list(0), memory.list(1));
             abi::evaluate_terms(memory.network(), memory.records(), args.index, f, pg, out)
         },
+        ..EVALUATE
     },
     Op {
         name: "row_kind",

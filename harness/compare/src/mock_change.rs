@@ -160,16 +160,75 @@ pub unsafe extern "C" fn site_run_changes(
     counted: *mut u32,
     counted_length: usize,
 ) -> u32 {
-    if changes_length % 3 != 0 {
+    let (w, r, ti, tc, s) =
+        (w as Pointer, r as *mut u8, ti as Pointer, tc as Pointer, s as Pointer);
+    let (rows, cols, values) = (rows as *mut u8, cols as *mut u8, values as *mut u8);
+    let (rows_length, cols_length) = (4 * rows_length, 4 * cols_length);
+    capi_run_changes(
+        w,
+        4 * wl,
+        r,
+        8 * rl,
+        ti,
+        4 * til,
+        tc,
+        8 * tcl,
+        s,
+        8 * sl,
+        rows,
+        rows_length,
+        cols,
+        cols_length,
+        values,
+        8 * values_length,
+        changes as Pointer,
+        4 * changes_length,
+        numbers as *mut u8,
+        4 * numbers_length,
+        counted as *mut u8,
+        4 * counted_length,
+    )
+}
+
+#[no_mangle]
+#[allow(clippy::too_many_arguments)]
+pub unsafe extern "C" fn capi_run_changes(
+    w: Pointer,
+    wl: usize,
+    r: *mut u8,
+    rl: usize,
+    ti: Pointer,
+    til: usize,
+    tc: Pointer,
+    tcl: usize,
+    s: Pointer,
+    sl: usize,
+    rows: *mut u8,
+    rows_length: usize,
+    cols: *mut u8,
+    cols_length: usize,
+    values: *mut u8,
+    values_length: usize,
+    changes: Pointer,
+    changes_length: usize,
+    numbers: *mut u8,
+    numbers_length: usize,
+    counted: *mut u8,
+    counted_length: usize,
+) -> u32 {
+    if changes_length % 12 != 0 {
         return 1;
     }
-    let count = changes_length / 3;
-    if count > numbers_length.min(counted_length) {
+    let count = changes_length / 12;
+    if 4 * count > numbers_length.min(counted_length) {
         return 7;
     }
     for place in 0..count {
-        let change = from_raw_parts(changes.add(3 * place), 3);
-        let answer = site_change(
+        let change: Vec<u32> = from_raw_parts(changes.add(12 * place), 12)
+            .chunks_exact(4)
+            .map(|word| u32::from_le_bytes([word[0], word[1], word[2], word[3]]))
+            .collect();
+        let answer = capi_change(
             w,
             wl,
             r,
@@ -190,8 +249,12 @@ pub unsafe extern "C" fn site_run_changes(
             change[1],
             change[2],
         );
-        *numbers.add(place) = (answer % 256) as u32;
-        *counted.add(place) = (answer / 256) as u32;
+        let put = |sheet: *mut u8, word: u64| {
+            let bytes = (word as u32).to_le_bytes();
+            std::ptr::copy_nonoverlapping(bytes.as_ptr(), sheet.add(4 * place), 4);
+        };
+        put(numbers, answer % 256);
+        put(counted, answer / 256);
     }
     0
 }

@@ -99,6 +99,12 @@ exports! {
         changes: &[u32], numbers: &mut [u32], counted: &mut [u32]
     ) -> u32;
 
+    capi_run_changes(
+        wiring: &[u8], readings: &mut [u8], term_index: &[u8], term_coefficient: &[u8],
+        solution: &[u8], rows: &mut [u8], cols: &mut [u8], values: &mut [u8],
+        changes: &[u8], numbers: &mut [u8], counted: &mut [u8]
+    ) -> u32;
+
     // capi_problem
     problem_assemble_opf(
         words, p_rows: &mut [u32], p_cols: &mut [u32], p_values: &mut [f64],

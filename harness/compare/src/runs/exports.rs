@@ -124,6 +124,54 @@ pub fn run_changes(memory: &RunMemory) -> u64 {
     u64::from(number)
 }
 
+/// What of a run's bytes is not lent, and what is lent besides.
+#[derive(Clone, Copy, Debug, Default, PartialEq, Eq)]
+pub struct Cut {
+    /// Bytes missing of wiring, readings, term indexes, term coefficients and solution.
+    pub inputs: [usize; 5],
+    /// Bytes missing of the changes, the numbers and the counts.
+    pub row: [usize; 3],
+    /// Bytes more than whole words of the numbers and the counts.
+    pub more: [usize; 2],
+}
+
+/// The same on bytes.
+pub fn run_changes_by_bytes(memory: &RunMemory, cut: Cut) -> u64 {
+    watch_call("run_changes", memory, memory.changes.length() / 12, 0);
+    let [wiring, readings, term_index, term_coefficient] = &memory.network;
+    let (solution, [rows, cols, values]) = (&memory.solution, &memory.sheets);
+    let (changes, numbers, counted) = (&memory.changes, &memory.numbers, &memory.counted);
+    // A region has at least as many canaries behind it as bytes are lent more.
+    let number = unsafe {
+        exports::capi_run_changes(
+            wiring.start(),
+            wiring.length() - cut.inputs[0],
+            readings.start(),
+            readings.length() - cut.inputs[1],
+            term_index.start(),
+            term_index.length() - cut.inputs[2],
+            term_coefficient.start(),
+            term_coefficient.length() - cut.inputs[3],
+            solution.start(),
+            solution.length() - cut.inputs[4],
+            rows.start(),
+            rows.length(),
+            cols.start(),
+            cols.length(),
+            values.start(),
+            values.length(),
+            changes.start(),
+            changes.length() - cut.row[0],
+            numbers.start(),
+            numbers.length() + cut.more[0] - cut.row[1],
+            counted.start(),
+            counted.length() + cut.more[1] - cut.row[2],
+        )
+    };
+    broken::row(memory, number);
+    u64::from(number)
+}
+
 /// The matrix of the network as the memory holds it.
 pub fn matrix(memory: &RunMemory) -> u64 {
     watch_call("kkt_triplets", memory, 0, 0);
@@ -207,6 +255,16 @@ mod broken {
             }
         }
         answer
+    }
+
+    /// On bytes a run's last change is numbered by its count.
+    pub fn row(memory: &RunMemory, number: u32) {
+        let changes = memory.changes.length() / 12;
+        if cfg!(feature = "broken_row") && number == 0 && changes > 0 {
+            let (last, counts) = (4 * (changes - 1), memory.counted.bytes());
+            let number = unsafe { bytes(&memory.numbers) };
+            number[last..last + 4].copy_from_slice(&counts[last..last + 4]);
+        }
     }
 
     /// A run's call writes a word past the last count.

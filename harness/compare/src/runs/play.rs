@@ -5,7 +5,7 @@ use crate::paper::{self, double};
 use crate::random::Rng;
 use crate::runs::book::{Book, Due, Triplet};
 use crate::runs::draw::{Idle, Scenario};
-use crate::runs::exports::{self, Way};
+use crate::runs::exports::{self, Cut, Way};
 use crate::runs::marks::RunMark;
 use crate::runs::memory::{triplets, RunMemory, READINGS};
 use crate::runs::table::{self, Cell, Change};
@@ -72,6 +72,7 @@ pub fn play(scenario: &Scenario, memory: &mut RunMemory, tally: &mut Tally) -> C
     if scenario.whole() {
         in_one_call(scenario, memory, &book, &log, tally)?;
         idle(scenario, memory, tally)?;
+        cut_short(scenario, memory, tally)?;
         twin(scenario, memory, &book, &log, &list, tally)?;
     }
     Ok(())
@@ -215,16 +216,19 @@ fn in_one_call(
         (0..log.lines.len() + longer).map(|_| rng.next() as u32).collect()
     };
     let (mut numbers, mut counted) = (sheet(scenario.longer[0]), sheet(scenario.longer[1]));
-    memory.fill(scenario);
-    memory.fill_changes(&changes, &numbers, &counted);
-    tally.made(Called::Whole, 0);
-    hold_answer(CHECK, 0, exports::run_changes(memory))?;
+    let (old_numbers, old_counted) = (numbers.clone(), counted.clone());
     for (place, &(number, count)) in log.lines.iter().enumerate() {
         numbers[place] = number;
         counted[place] = count;
     }
-    hold(CHECK, memory.changes_difference(&changes, &numbers, &counted))?;
-    hold(CHECK, memory.difference(scenario, &book.site.lent.readings, &book.sheets))?;
+    let more = [scenario.longer[0], scenario.longer[1]];
+    for form in WHOLE {
+        memory.fill(scenario);
+        memory.fill_changes(&changes, &old_numbers, &old_counted);
+        run_changes(CHECK, memory, form, Cut { more, ..Cut::default() }, 0, tally)?;
+        hold(CHECK, memory.changes_difference(&changes, &numbers, &counted))?;
+        hold(CHECK, memory.difference(scenario, &book.site.lent.readings, &book.sheets))?;
+    }
     tally.hit_if(RunMark::WholeExact, scenario.longer == [0, 0]);
     tally.hit_if(RunMark::WholeLonger, scenario.longer != [0, 0]);
     Ok(())
@@ -263,13 +267,70 @@ fn idle(scenario: &Scenario, memory: &mut RunMemory, tally: &mut Tally) -> Check
             0
         }
     };
-    memory.fill(scenario);
-    memory.fill_changes(&changes, &numbers, &counted);
-    tally.made(Called::Whole, due);
-    hold_answer(CHECK, u64::from(due), exports::run_changes(memory))?;
-    hold(CHECK, memory.changes_difference(&changes, &numbers, &counted))?;
-    hold(CHECK, memory.difference(scenario, &scenario.lent.readings, &scenario.sheets))?;
+    for form in WHOLE {
+        memory.fill(scenario);
+        memory.fill_changes(&changes, &numbers, &counted);
+        run_changes(CHECK, memory, form, Cut::default(), due, tally)?;
+        hold(CHECK, memory.changes_difference(&changes, &numbers, &counted))?;
+        hold(CHECK, memory.difference(scenario, &scenario.lent.readings, &scenario.sheets))?;
+    }
     tally.idle(scenario.idle);
+    Ok(())
+}
+
+/// The forms of a call on a whole run.
+const WHOLE: [Called; 2] = [Called::Whole, Called::WholeOnBytes];
+
+/// A call on a whole run of which this number is due; what is cut is cut on bytes alone.
+fn run_changes(
+    check: &str,
+    memory: &RunMemory,
+    form: Called,
+    cut: Cut,
+    due: u8,
+    tally: &mut Tally,
+) -> Checked<()> {
+    tally.made(form, due);
+    let answer = match form {
+        Called::WholeOnBytes => exports::run_changes_by_bytes(memory, cut),
+        _ => exports::run_changes(memory),
+    };
+    hold_answer(check, u64::from(due), answer)
+}
+
+/// A call on bytes with a slice that is no whole number of its elements: changes and sheets for their
+/// answers are refused at once; with any other, each change is refused by 1.
+fn cut_short(scenario: &Scenario, memory: &mut RunMemory, tally: &mut Tally) -> Checked<()> {
+    const CHECK: &str = "a run's call on bytes, one slice cut";
+    let mut rng = Rng::new(scenario.seed, 3);
+    let changes = words_of(&scenario.changes());
+    let count = changes.len() / 3;
+    let (old, lent) = (vec![13; count], scenario.lent.slices());
+    let mut cut = Cut::default();
+    let place = rng.below(8);
+    let (due, mark) = match place {
+        0..=2 if count == 0 => return Ok(()),
+        0 => (1, RunMark::RowRagged),
+        1 | 2 => (7, RunMark::RowShort),
+        _ => (0, RunMark::RowCut),
+    };
+    if place < 3 {
+        cut.row[place] = if place == 0 { rng.between(1, 11) } else { rng.between(1, 4) };
+    } else {
+        let (slice, size) = (place - 3, [4, 8, 4, 8, 8][place - 3]);
+        let length = lent.get(slice).map_or(scenario.solution.len(), |bytes| bytes.len());
+        if length == 0 {
+            return Ok(());
+        }
+        cut.inputs[slice] = rng.between(1, size - 1);
+    }
+    memory.fill(scenario);
+    memory.fill_changes(&changes, &old, &old);
+    run_changes(CHECK, memory, Called::WholeOnBytes, cut, due, tally)?;
+    let answered = |word: u32| if due == 0 { vec![word; count] } else { old.clone() };
+    hold(CHECK, memory.changes_difference(&changes, &answered(1), &answered(0)))?;
+    hold(CHECK, memory.difference(scenario, &scenario.lent.readings, &scenario.sheets))?;
+    tally.hit_if(mark, true);
     Ok(())
 }
 
@@ -291,8 +352,7 @@ fn twin(
     let blank = vec![0; changes.len()];
     memory.fill(scenario);
     memory.fill_changes(&words_of(&changes), &blank, &blank);
-    tally.made(Called::Whole, 0);
-    hold_answer(CHECK, 0, exports::run_changes(memory))?;
+    run_changes(CHECK, memory, WHOLE[scenario.seed as usize % 2], Cut::default(), 0, tally)?;
     let numbers = paper::words(memory.numbers.bytes());
     let accepted = numbers.iter().rposition(|&number| number == 0);
     let alike = memory.network[READINGS].bytes() == &book.site.lent.readings[..];

@@ -44,11 +44,12 @@ pub enum Called {
     OnBytes,
     Typed,
     Whole,
+    WholeOnBytes,
 }
 
 impl Called {
-    const NAMES: [&'static str; 4] =
-        ["sens_kkt_triplets", "capi_change", "site_change", "site_run_changes"];
+    const NAMES: [&'static str; 5] =
+        ["sens_kkt_triplets", "capi_change", "site_change", "site_run_changes", "capi_run_changes"];
 
     fn of(way: Way) -> Called {
         match way {

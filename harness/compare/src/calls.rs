@@ -260,12 +260,24 @@ fn evaluated(site: &Site, args: &Args) -> Answer {
     one(site.oracle().evaluate(args.index, &f, &pg))
 }
 
+/// A call on a network alone that fills one sheet of doubles: what the others don't say otherwise.
+const CALL: Op = Op {
+    name: "",
+    index: None,
+    lists: &[],
+    raw: false,
+    sheets: &[("out", Word::F64)],
+    numbers: &[0, 1, 2, 3, 7],
+    rounds: 1,
+    room: Room::Open,
+    answer: |_, _| unreachable!("each call has its own"),
+    invoke: |_, _| unreachable!("each call has its own"),
+};
+
 const EVALUATE: Op = Op {
     name: "evaluate",
     index: Some(Count::Rows),
     lists: &[("f", Length::Of(Count::Branches)), ("pg", Length::Of(Count::Generators))],
-    raw: false,
-    sheets: &[("out", Word::F64)],
     numbers: &[0, 1, 2, 3, 5, 7],
     rounds: 3,
     room: Room::Counts(one_word),
@@ -275,27 +287,22 @@ const EVALUATE: Op = Op {
         let (f, pg) = (memory.list(0), memory.list(1));
         abi::evaluate(memory.network(), args.index, f, pg, out)
     },
+    ..CALL
 };
 
 pub static OPS: &[Op] = &[
     Op {
         name: "network_number",
-        index: None,
-        lists: &[],
-        raw: false,
         sheets: &[],
         numbers: &[0, 1, 2, 3],
-        rounds: 1,
         room: Room::Open,
         answer: |_, _| Answer { count: 0, fronts: vec![] },
         invoke: |memory, _| abi::network_number(memory.network()),
+        ..CALL
     },
     Op {
         name: "shed_cap",
         index: Some(Count::Buses),
-        lists: &[],
-        raw: false,
-        sheets: &[("out", Word::F64)],
         numbers: &[0, 1, 2, 3, 5, 7],
         rounds: 3,
         room: Room::Counts(one_word),
@@ -304,13 +311,11 @@ pub static OPS: &[Op] = &[
             let out = memory.sheet(0);
             abi::shed_cap(memory.network(), args.index, out)
         },
+        ..CALL
     },
     Op {
         name: "current_flow_offset",
         index: Some(Count::Branches),
-        lists: &[],
-        raw: false,
-        sheets: &[("out", Word::F64)],
         numbers: &[0, 1, 2, 3, 5, 7],
         rounds: 2,
         room: Room::Counts(one_word),
@@ -319,13 +324,12 @@ pub static OPS: &[Op] = &[
             let out = memory.sheet(0);
             abi::current_flow_offset(memory.network(), args.index, out)
         },
+        ..CALL
     },
     Op {
         name: "generator_cost",
         index: Some(Count::Generators),
-        lists: &[],
         raw: true,
-        sheets: &[("out", Word::F64)],
         numbers: &[0, 1, 2, 3, 5, 7],
         rounds: 3,
         room: Room::Counts(one_word),
@@ -336,6 +340,7 @@ pub static OPS: &[Op] = &[
             let out = memory.sheet(0);
             abi::generator_cost(memory.network(), args.index, args.bits, out)
         },
+        ..CALL
     },
     EVALUATE,
     Op {
@@ -350,67 +355,47 @@ pub static OPS: &[Op] = &[
     Op {
         name: "row_kind",
         index: Some(Count::Rows),
-        lists: &[],
-        raw: false,
         sheets: &[],
         numbers: &[0, 1, 2, 3, 5],
         rounds: 3,
         room: Room::Open,
         answer: |site, args| Answer { count: row_kind(site, args.index), fronts: vec![] },
         invoke: |memory, args| abi::row_kind(memory.network(), args.index),
+        ..CALL
     },
     Op {
         name: "phase_withdrawal",
-        index: None,
-        lists: &[],
-        raw: false,
-        sheets: &[("out", Word::F64)],
-        numbers: &[0, 1, 2, 3, 7],
-        rounds: 1,
         room: Room::Counts(one_a_bus),
         answer: |site, _| all(site.oracle().phase_withdrawal()),
         invoke: |memory, _| {
             let out = memory.sheet(0);
             abi::phase_withdrawal(memory.network(), out)
         },
+        ..CALL
     },
     Op {
         name: "network_withdrawal",
-        index: None,
-        lists: &[],
-        raw: false,
-        sheets: &[("out", Word::F64)],
-        numbers: &[0, 1, 2, 3, 7],
-        rounds: 1,
         room: Room::Counts(one_a_bus),
         answer: |site, _| all(site.oracle().network_withdrawal()),
         invoke: |memory, _| {
             let out = memory.sheet(0);
             abi::network_withdrawal(memory.network(), out)
         },
+        ..CALL
     },
     Op {
         name: "current_fixed_withdrawal",
-        index: None,
-        lists: &[],
-        raw: false,
-        sheets: &[("out", Word::F64)],
-        numbers: &[0, 1, 2, 3, 7],
-        rounds: 1,
         room: Room::Counts(one_a_bus),
         answer: |site, _| all(site.oracle().current_fixed_withdrawal()),
         invoke: |memory, _| {
             let out = memory.sheet(0);
             abi::current_fixed_withdrawal(memory.network(), out)
         },
+        ..CALL
     },
     Op {
         name: "susceptance_coo",
-        index: None,
-        lists: &[],
-        raw: false,
         sheets: &[("rows", Word::U32), ("cols", Word::U32), ("values", Word::F64)],
-        numbers: &[0, 1, 2, 3, 7],
         rounds: 2,
         room: Room::Open,
         answer: |site, _| triplets(site.oracle().susceptance_coo()),
@@ -418,30 +403,22 @@ pub static OPS: &[Op] = &[
             let (rows, cols, values) = (memory.sheet(0), memory.sheet(1), memory.sheet(2));
             abi::susceptance_coo(memory.network(), rows, cols, values)
         },
+        ..CALL
     },
     Op {
         name: "snap",
-        index: None,
         lists: &[("solution", Length::Solution)],
-        raw: false,
-        sheets: &[("out", Word::F64)],
-        numbers: &[0, 1, 2, 3, 7],
-        rounds: 1,
         room: Room::Counts(whole_sheet),
         answer: |site, args| all(site.oracle().snap(&paper::doubles(&args.lists[0]))),
         invoke: |memory, _| {
             let out = memory.sheet(0);
             abi::snap(memory.network(), memory.list(0), out)
         },
+        ..CALL
     },
     Op {
         name: "snap_linear",
-        index: None,
         lists: &[("solution", Length::Solution)],
-        raw: false,
-        sheets: &[("out", Word::F64)],
-        numbers: &[0, 1, 2, 3, 7],
-        rounds: 1,
         room: Room::Counts(|site| site.count(Count::Rows).map(|rows| 3 * rows)),
         answer: |site, args| {
             let duals = site.oracle().snap_linear(&paper::doubles(&args.lists[0]));
@@ -451,30 +428,23 @@ pub static OPS: &[Op] = &[
             let out = memory.sheet(0);
             abi::snap_linear(memory.network(), memory.list(0), out)
         },
+        ..CALL
     },
     Op {
         name: "nu_flow_values",
-        index: None,
         lists: &[("solution", Length::Solution)],
-        raw: false,
-        sheets: &[("out", Word::F64)],
-        numbers: &[0, 1, 2, 3, 7],
-        rounds: 1,
         room: Room::Counts(|site| site.count(Count::Branches)),
         answer: |site, args| all(site.oracle().nu_flow_values(&paper::doubles(&args.lists[0]))),
         invoke: |memory, _| {
             let out = memory.sheet(0);
             abi::nu_flow_values(memory.network(), memory.list(0), out)
         },
+        ..CALL
     },
     Op {
         name: "kkt_triplets",
-        index: None,
         lists: &[("solution", Length::SolutionFront)],
-        raw: false,
         sheets: &[("rows", Word::U32), ("cols", Word::U32), ("values", Word::F64)],
-        numbers: &[0, 1, 2, 3, 7],
-        rounds: 1,
         room: Room::Between(|shape| vec![(shape.matrix_least(), shape.matrix_most()); 3]),
         answer: |site, args| {
             let list = site.oracle().jacobian(&paper::doubles(&args.lists[0]));
@@ -486,15 +456,11 @@ pub static OPS: &[Op] = &[
             let (rows, cols, values) = (memory.sheet(0), memory.sheet(1), memory.sheet(2));
             abi::kkt_triplets(memory.network(), memory.list(0), rows, cols, values)
         },
+        ..CALL
     },
     Op {
         name: "nodal_marginal_values",
-        index: None,
         lists: &[("solution", Length::Solution)],
-        raw: false,
-        sheets: &[("out", Word::F64)],
-        numbers: &[0, 1, 2, 3, 7],
-        rounds: 1,
         room: Room::Counts(one_a_bus),
         answer: |site, args| {
             all(site.oracle().nodal_marginal_values(&paper::doubles(&args.lists[0])))
@@ -503,15 +469,12 @@ pub static OPS: &[Op] = &[
             let out = memory.sheet(0);
             program::nodal_marginal_values(memory.network(), memory.list(0), out)
         },
+        ..CALL
     },
     Op {
         name: "read_dc_solution",
-        index: None,
         lists: &[("x", Length::Columns), ("z", Length::Rows)],
         raw: true,
-        sheets: &[("out", Word::F64)],
-        numbers: &[0, 1, 2, 3, 7],
-        rounds: 1,
         room: Room::Counts(whole_sheet),
         answer: |site, args| {
             let (x, z) = (paper::doubles(&args.lists[0]), paper::doubles(&args.lists[1]));
@@ -522,36 +485,29 @@ pub static OPS: &[Op] = &[
             let (x, z) = (memory.list(0), memory.list(1));
             program::read_dc_solution(memory.network(), x, z, args.bits, out)
         },
+        ..CALL
     },
     Op {
         name: "assemble_opf",
-        index: None,
-        lists: &[],
-        raw: false,
         sheets: &OUTPUTS,
-        numbers: &[0, 1, 2, 3, 7],
-        rounds: 1,
         room: Room::Between(of_program),
         answer: |site, _| assembly(site),
         invoke: |memory, _| {
             let sheets = memory.program_sheets();
             program::assemble_opf(memory.network(), sheets)
         },
+        ..CALL
     },
     Op {
         name: "assemble_opf by words",
-        index: None,
-        lists: &[],
-        raw: false,
         sheets: &OUTPUTS,
-        numbers: &[0, 1, 2, 3, 7],
-        rounds: 1,
         room: Room::Between(of_program),
         answer: |site, _| assembly(site),
         invoke: |memory, _| {
             let sheets = memory.program_sheets();
             program::typed_assemble_opf(memory.network(), sheets)
         },
+        ..CALL
     },
 ];
 

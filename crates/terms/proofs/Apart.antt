@@ -1,5 +1,5 @@
 -- The terms in two arrays: the arrays' lengths, their fronts, and the call on the fronts.
--- Main results: `long`, `indexes-length`, `index-more`, `coefficient-more`, `apart`, `called`, `array-called`. Assumes nothing.
+-- Main results: `long`, `indexes-length`, `index-more`, `coefficient-more`, `stored-apart`, `apart`, `called`, `array-called`. Assumes nothing.
 use Prim.Native.Nat.{ℕ, zero, suc, _+_, _≤_, _<_}
 use native.Mathlib.Numerals.{add-one}
 use native.Mathlib.Omega.{arith}
@@ -12,7 +12,7 @@ use denote.Struct.Laws as LL
 use lib.Dec.{eqb, leb}
 use lib.Ieee.{Float}
 use lib.ListN.{length, getD, set, take, drop, drop-of-length-le, length-map}
-use lib.Seq.{sets, sets-eq, take-at, take-take, drop-cons}
+use lib.Seq.{sets, sets-eq, take-at, drop-cons, length-take-le}
 use borrow.Author.Tests.{leb-true, leb-false}
 use Rattle.float64.specs.Values.{sheetLimit}
 use Rattle.sequence.specs.Answers.{filled}
@@ -62,11 +62,15 @@ front-sets : {A : Type 0} (vs xs : List A) (n : ℕ) → length vs ≡ n → n �
 front-sets vs xs n e l = ap (take n) (sets-eq vs xs 0 (omega arith)) ∙ take-at vs (drop (0 + length vs) xs) n e
 
 -- arrays in which all terms are stored are the terms apart
-pub apart : (ts : List Term) (c d : Columns) → (length (c .indexes) ≡ 1024) × (length (c .coefficients) ≡ 1024) → d .indexes ≡ sets (c .indexes) 0 (indexesOf ts) → d .coefficients ≡ sets (c .coefficients) 0 (coefficientsOf ts) → Apart ts d
-apart ts c d s p q l = (
-  ap (take (length ts)) p ∙ front-sets (indexesOf ts) (c .indexes) (length ts) (indexes-length ts) (omega (arith, s .0)),
-  ap (take (length ts)) q ∙ front-sets (coefficientsOf ts) (c .coefficients) (length ts) (coefficients-length ts) (omega (arith, s .1)),
+pub stored-apart : (ts : List Term) (xs₀ : List ℕ) (ys₀ : List Float) {xs : List ℕ} {ys : List Float} → length xs₀ ≡ 1024 → length ys₀ ≡ 1024 → xs ≡ sets xs₀ 0 (indexesOf ts) → ys ≡ sets ys₀ 0 (coefficientsOf ts)
+    → Apart ts (record { indexes = xs; coefficients = ys })
+stored-apart ts xs₀ ys₀ a b p q l = (
+  ap (take (length ts)) p ∙ front-sets (indexesOf ts) xs₀ (length ts) (indexes-length ts) (omega (arith, a)),
+  ap (take (length ts)) q ∙ front-sets (coefficientsOf ts) ys₀ (length ts) (coefficients-length ts) (omega (arith, b)),
 )
+
+pub apart : (ts : List Term) (c d : Columns) → (length (c .indexes) ≡ 1024) × (length (c .coefficients) ≡ 1024) → d .indexes ≡ sets (c .indexes) 0 (indexesOf ts) → d .coefficients ≡ sets (c .coefficients) 0 (coefficientsOf ts) → Apart ts d
+apart ts c d s p q = stored-apart ts (c .indexes) (c .coefficients) (s .0) (s .1) p q
 
 -- ---- the call
 
@@ -89,25 +93,13 @@ called w r ts c q f pg sheet h false e = rw e (refused (networkOf w r ts) (rw (i
 
 -- ---- the first n of an array
 
-indexes-take : (n : ℕ) (ts : List Term) → indexesOf (take n ts) ≡ take n (indexesOf ts)
-unfolding indexesOf
-indexes-take zero ts = refl
-indexes-take (suc n) [] = refl
-indexes-take (suc n) (t ∷ ts) = ap (λ (is : List ℕ). t .index ∷ is) (indexes-take n ts)
-
-coefficients-take : (n : ℕ) (ts : List Term) → coefficientsOf (take n ts) ≡ take n (coefficientsOf ts)
-unfolding coefficientsOf
-coefficients-take zero ts = refl
-coefficients-take (suc n) [] = refl
-coefficients-take (suc n) (t ∷ ts) = ap (λ (ks : List Float). t .coefficient ∷ ks) (coefficients-take n ts)
-
 -- the call on the fronts of n places is the call on the first n terms
-pub array-called : (w : List ℕ) (r : List Float) (ts : List Term) (c : Columns) (n q : ℕ) (f pg sheet : List Float) → length ts ≡ 1024 → Apart ts c → (b : Bool) → leb n 1024 ≡ b
+pub array-called : (w : List ℕ) (r : List Float) (ts : List Term) (c : Columns) (n q : ℕ) (f pg sheet : List Float) → length ts ≡ 1024 → (n ≤ 1024 → Apart (take n ts) c) → (b : Bool) → leb n 1024 ≡ b
     → columnsCall w r c n q f pg sheet ≡ arrayCall w r ts n q f pg sheet
 unfolding columnsCall arrayCall
 array-called w r ts c n q f pg sheet s h false e = rw e
 array-called w r ts c n q f pg sheet s h true e =
-    let a = h (omega (arith, s)) in
     let l : n ≤ 1024 = leb-true n 1024 e in
-    let p = sym (take-take n (length ts) (c .indexes) (omega (arith, s, l))) ∙ ap (take n) (a .0) ∙ sym (indexes-take n ts) in
-    let k = sym (take-take n (length ts) (c .coefficients) (omega (arith, s, l))) ∙ ap (take n) (a .1) ∙ sym (coefficients-take n ts) in rw (e, p, k)
+    let k : length (take n ts) ≡ n = length-take-le n ts (omega (arith, s, l)) in
+    let a = h l (omega (arith, k, l)) in
+    rw (e, sym (ap (λ (j : ℕ). take j (c .indexes)) k) ∙ a .0, sym (ap (λ (j : ℕ). take j (c .coefficients)) k) ∙ a .1)

@@ -3,6 +3,7 @@ use model::dc;
 use sequence::Answer;
 ghost use mathlib.Core.Path.{_≡_};
 ghost use Prim.Native.Nat.{ℕ, _≤_};
+ghost use lib.ListN.{take};
 ghost use Rattle.sequence.specs.Answers.{filled};
 ghost use Rattle.model.specs.Calls.{evaluateCall};
 ghost use Rattle.terms.specs.Terms.{putAt, Apart, columnsCall, networkOf, arrayCall};
@@ -41,7 +42,7 @@ fn put(c: Columns, i: usize, t: Term) -> Columns
 
 // How many terms are taken apart: all, or none where the arrays have no room for them.
 fn to_take(n: usize) -> usize
-    ensures { λ (r : ℕ). ⌜ (r ≤ n) × (n ≤ 1024 → r ≡ n) ⌝ }
+    ensures { λ (r : ℕ). ⌜ (r ≤ n) × ((n ≤ 1024 → r ≡ n) × (r ≤ 1024)) ⌝ }
 {
     if n > 1024 {
         return 0;
@@ -96,11 +97,24 @@ fn evaluate_columns(
     )
 }
 
-// The terms of an array, taken apart: the array is lent as a slice.
-fn array_apart(terms: [Term; 1024]) -> Columns
-    ensures { λ r. ⌜ Apart terms r ⌝ }
+// The first n terms of an array, taken apart.
+fn array_apart(terms: [Term; 1024], n: usize) -> Columns
+    ensures { λ r. ⌜ (n ≤ 1024 → Apart (take n terms) r) ⌝ }
 {
-    take_apart(&terms)
+    let mut indexes = [0u32; 1024];
+    let mut coefficients = [0.0; 1024];
+    let m = to_take(n);
+    let mut i: usize = 0;
+    while i < m {
+        let t = terms[i];
+        indexes[i] = t.index;
+        coefficients[i] = t.coefficient;
+        i += 1;
+    }
+    Columns {
+        indexes,
+        coefficients,
+    }
 }
 
 // A linear row's value at flows and powers.
@@ -140,5 +154,5 @@ pub fn evaluate_array(
 ) -> Answer
     ensures { λ a. ⌜ filled (a .number) (a .count) (now (out .exit)) ≡ arrayCall (now (wiring .entry)) (now (readings .entry)) terms n row (now (f .entry)) (now (pg .entry)) (now (out .entry)) ⌝ }
 {
-    evaluate_columns(wiring, readings, array_apart(terms), n, row, f, pg, out)
+    evaluate_columns(wiring, readings, array_apart(terms, n), n, row, f, pg, out)
 }

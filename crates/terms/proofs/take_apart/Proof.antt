@@ -149,7 +149,7 @@ module _ {M : Type 1} (𝓤 : URA M) (H : Heap 𝓤) (A : Atoms 𝓤) (W : Given
 
   -- k terms are taken: all, where there is room for them
   abbrev Takes : ℕ → Type 0
-  Takes k = (k ≤ n) × (n ≤ 1024 → k ≡ n)
+  Takes k = (k ≤ n) × ((n ≤ 1024 → k ≡ n) × (k ≤ 1024))
 
   count-said : (k : ℕ) → ent 𝓤 (ensured 𝓤 H A to-take.ended (to-take.clauses 𝓤 H A mem run) tt (n, tt) tt k) (fact 𝓤 (Takes k))
   count-said k = exE 𝓤 _ (λ ws. snd∗ 𝓤 (sem 𝓤 H A (lasts to-take.ended tt (n, tt) ws)) (fact 𝓤 (Takes k)))
@@ -187,7 +187,7 @@ module _ {M : Type 1} (𝓤 : URA M) (H : Heap 𝓤) (A : Atoms 𝓤) (W : Given
 
     all-stored : (st : St) → k ≤ st .0 → Apart ys (st .1 .0)
     all-stored st h l =
-        let e : n ≤ st .0 = omega (arith, h, takes .1 l) in
+        let e : n ≤ st .0 = omega (arith, h, takes .1 .0 l) in
         apart ys c₀ (st .1 .0) s₀ (sym (index-none (st .1 .0 .indexes) ys (st .0) e) ∙ st .1 .1 .1 .1 .1 .0) (sym (coefficient-none (st .1 .0 .coefficients) ys (st .0) e) ∙ st .1 .1 .1 .1 .1 .1) l
 
     module _ (𝓣 : Tables 𝓤 H) (fm : FmC 𝓤 H (W .laws) (𝓣 .C)) (known : Triple 𝓤 (𝓣 .C #terms·put) (Put 𝓤 H A mem run)) (gn : Room T.the-row n) (l₀ l₁ l₂ l₃ l₄ l₅ l₆ l₇ l₈ l₉ : ℕ) where

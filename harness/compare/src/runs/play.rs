@@ -221,11 +221,12 @@ fn in_one_call(
         numbers[place] = number;
         counted[place] = count;
     }
-    let more = [scenario.longer[0], scenario.longer[1]];
-    for form in WHOLE {
+    // On bytes each change decodes the network anew: every fourth run is enough of that.
+    let forms = if scenario.seed % 4 == 0 { &WHOLE[..] } else { &WHOLE[..1] };
+    for &form in forms {
         memory.fill(scenario);
         memory.fill_changes(&changes, &old_numbers, &old_counted);
-        run_changes(CHECK, memory, form, Cut { more, ..Cut::default() }, 0, tally)?;
+        run_changes(CHECK, memory, form, Cut { more: scenario.longer, ..Cut::default() }, 0, tally)?;
         hold(CHECK, memory.changes_difference(&changes, &numbers, &counted))?;
         hold(CHECK, memory.difference(scenario, &book.site.lent.readings, &book.sheets))?;
     }
@@ -352,7 +353,7 @@ fn twin(
     let blank = vec![0; changes.len()];
     memory.fill(scenario);
     memory.fill_changes(&words_of(&changes), &blank, &blank);
-    run_changes(CHECK, memory, WHOLE[scenario.seed as usize % 2], Cut::default(), 0, tally)?;
+    run_changes(CHECK, memory, WHOLE[usize::from(scenario.seed % 8 == 1)], Cut::default(), 0, tally)?;
     let numbers = paper::words(memory.numbers.bytes());
     let accepted = numbers.iter().rposition(|&number| number == 0);
     let alike = memory.network[READINGS].bytes() == &book.site.lent.readings[..];

@@ -132,8 +132,8 @@ uint32_t site_run_changes(const uint32_t *wiring, size_t wiring_length, double *
     const uint32_t *changes, size_t changes_length, uint32_t *numbers, size_t numbers_length, uint32_t *counted,
     size_t counted_length);
 
-/* The same on bytes, twelve for a change and four for each number and count: a row of `capi_change` calls, each on the
- * bytes that the last one left. So a ragged slice of wiring, readings, terms or solution refuses each change by 1. */
+/* The same on bytes, twelve for a change and four for each number and count: one `capi_change` call after the other, each
+ * on the bytes that the last one left. So a ragged slice of wiring, readings, terms or solution refuses each change by 1. */
 uint32_t capi_run_changes(const uint8_t *wiring, size_t wiring_length, uint8_t *readings, size_t readings_length,
     const uint8_t *term_index, size_t term_index_length, const uint8_t *term_coefficient,
     size_t term_coefficient_length, const uint8_t *solution, size_t solution_length, uint8_t *rows,

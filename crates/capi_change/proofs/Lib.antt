@@ -1,4 +1,4 @@
 -- The laws that proofs cite. Assumes nothing.
 pub mod Telling
 pub mod Carried
-pub mod Rows
+pub mod InTurn

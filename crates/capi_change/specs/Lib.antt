@@ -1,3 +1,3 @@
 -- The definitions that the contracts cite. Assumes nothing.
 pub mod Told
-pub mod Row
+pub mod InTurn

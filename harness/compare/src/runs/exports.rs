@@ -130,7 +130,7 @@ pub struct Cut {
     /// Bytes missing of wiring, readings, term indexes, term coefficients and solution.
     pub inputs: [usize; 5],
     /// Bytes missing of the changes, the numbers and the counts.
-    pub row: [usize; 3],
+    pub own: [usize; 3],
     /// Bytes more than whole words of the numbers and the counts.
     pub more: [usize; 2],
 }
@@ -161,14 +161,14 @@ pub fn run_changes_by_bytes(memory: &RunMemory, cut: Cut) -> u64 {
             values.start(),
             values.length(),
             changes.start(),
-            changes.length() - cut.row[0],
+            changes.length() - cut.own[0],
             numbers.start(),
-            numbers.length() + cut.more[0] - cut.row[1],
+            numbers.length() + cut.more[0] - cut.own[1],
             counted.start(),
-            counted.length() + cut.more[1] - cut.row[2],
+            counted.length() + cut.more[1] - cut.own[2],
         )
     };
-    broken::row(memory, number);
+    broken::turn(memory, number);
     u64::from(number)
 }
 
@@ -258,9 +258,9 @@ mod broken {
     }
 
     /// On bytes a run's last change is numbered by its count.
-    pub fn row(memory: &RunMemory, number: u32) {
+    pub fn turn(memory: &RunMemory, number: u32) {
         let changes = memory.changes.length() / 12;
-        if cfg!(feature = "broken_row") && number == 0 && changes > 0 {
+        if cfg!(feature = "broken_turn") && number == 0 && changes > 0 {
             let (last, counts) = (4 * (changes - 1), memory.counted.bytes());
             let number = unsafe { bytes(&memory.numbers) };
             number[last..last + 4].copy_from_slice(&counts[last..last + 4]);

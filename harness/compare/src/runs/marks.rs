@@ -26,9 +26,9 @@ marks! {
         Ragged => "in one call: not whole changes, refused",
         RaggedShort => "in one call: not whole changes and no room, refused for the first",
         Empty => "in one call: no change",
-        RowRagged => "in one call on bytes: changes cut within one, refused",
-        RowShort => "in one call on bytes: numbers or counts cut within a word, refused",
-        RowCut => "in one call on bytes: another slice cut within a word, each change refused",
+        BytesRagged => "in one call on bytes: changes cut within one, refused",
+        BytesShort => "in one call on bytes: numbers or counts cut within a word, refused",
+        BytesCut => "in one call on bytes: another slice cut within a word, each change refused",
     }
     "changes called" {
         Typed => "on typed slices",

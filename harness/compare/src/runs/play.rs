@@ -311,12 +311,12 @@ fn cut_short(scenario: &Scenario, memory: &mut RunMemory, tally: &mut Tally) -> 
     let place = rng.below(8);
     let (due, mark) = match place {
         0..=2 if count == 0 => return Ok(()),
-        0 => (1, RunMark::RowRagged),
-        1 | 2 => (7, RunMark::RowShort),
-        _ => (0, RunMark::RowCut),
+        0 => (1, RunMark::BytesRagged),
+        1 | 2 => (7, RunMark::BytesShort),
+        _ => (0, RunMark::BytesCut),
     };
     if place < 3 {
-        cut.row[place] = if place == 0 { rng.between(1, 11) } else { rng.between(1, 4) };
+        cut.own[place] = if place == 0 { rng.between(1, 11) } else { rng.between(1, 4) };
     } else {
         let (slice, size) = (place - 3, [4, 8, 4, 8, 8][place - 3]);
         let length = lent.get(slice).map_or(scenario.solution.len(), |bytes| bytes.len());

@@ -1,4 +1,4 @@
-// A list of changes on byte slices: a row of change calls.
+// A list of changes on byte slices: one change call after the other.
 use crate::bytes::capi_change;
 use words::put;
 use words::word32;
@@ -8,7 +8,7 @@ ghost use lib.ListN.{length};
 ghost use lib.Seq.{sets};
 ghost use Rattle.words.specs.Words.{bytesOf};
 ghost use Rattle.capi_change.specs.Told.{leaves};
-ghost use Rattle.capi_change.specs.Row.{fed, called, rowRan, rowCall};
+ghost use Rattle.capi_change.specs.InTurn.{fed, called, inTurn, inTurnCall};
 
 // Change i of a list, whose number and count go to word i of the two sheets.
 fn call_one(
@@ -69,7 +69,7 @@ pub extern "C" fn capi_run_changes(
     numbers: &mut [u8],
     counted: &mut [u8],
 ) -> u32
-    ensures { λ a. ⌜ rowRan a (leaves 0 (now (readings .exit)) (now (rows .exit)) (now (cols .exit)) (now (values .exit))) (now (numbers .exit)) (now (counted .exit)) ≡ rowCall (fed (now (wiring .entry)) (now («term_index» .entry)) (now («term_coefficient» .entry)) (now (solution .entry)) (now (changes .entry))) (leaves 0 (now (readings .entry)) (now (rows .entry)) (now (cols .entry)) (now (values .entry))) (now (numbers .entry)) (now (counted .entry)) ⌝ }
+    ensures { λ a. ⌜ inTurn a (leaves 0 (now (readings .exit)) (now (rows .exit)) (now (cols .exit)) (now (values .exit))) (now (numbers .exit)) (now (counted .exit)) ≡ inTurnCall (fed (now (wiring .entry)) (now («term_index» .entry)) (now («term_coefficient» .entry)) (now (solution .entry)) (now (changes .entry))) (leaves 0 (now (readings .entry)) (now (rows .entry)) (now (cols .entry)) (now (values .entry))) (now (numbers .entry)) (now (counted .entry)) ⌝ }
 {
     if changes.len() % 12 != 0 {
         return 1;

@@ -1,12 +1,12 @@
--- `capi_change::row::call_one` meets its contract: the call for the change that its twelve bytes are, and its answer's two words. Assumes nothing.
+-- `capi_change::in_turn::call_one` meets its contract: the call for the change that its twelve bytes are, and its answer's two words. Assumes nothing.
 use mathlib.Core.Path.{_∙_}
 use native.Mathlib.Omega.{arith}
 use borrow.Author.Needs.{needs}
 use Rattle.capi_change.specs.Told.{leaves}
-use Rattle.capi_change.specs.Row.{fed}
-use Rattle.capi_change.proofs.Rows.{called-by}
-use Rattle.capi_change.proofs.row.call_one.Statement.{statement}
-use Rattle.capi_change.proofs.row.call_one.Tie as tie
+use Rattle.capi_change.specs.InTurn.{fed}
+use Rattle.capi_change.proofs.InTurn.{called-by}
+use Rattle.capi_change.proofs.in_turn.call_one.Statement.{statement}
+use Rattle.capi_change.proofs.in_turn.call_one.Tie as tie
 
 mul-put : tie.Need-mul-put
 mul-put c = let s = c .before .before .before .before .before .before .before .before .before .before .before .before .before .before .before .before .before .before .before .before .before .before .before .before .before .before .before .before in omega (arith, s)

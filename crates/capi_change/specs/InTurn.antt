@@ -1,5 +1,5 @@
--- A list of changes on bytes: a row of change calls, each on the bytes that the last one left.
--- Main definitions: `rowAfter`, `rowCall`. Assumes nothing.
+-- A list of changes on bytes: one change call after the other, each on the bytes that the last one left.
+-- Main definitions: `afterCalls`, `inTurnCall`. Assumes nothing.
 use Prim.Native.Nat.{ℕ, zero, suc, _+_, _*_, _/_, _%_}
 use mathlib.Core.Bool.{Bool, cond, not, _&&_, _||_}
 use mathlib.Core.List.{List, [], _∷_}
@@ -40,18 +40,18 @@ module _ (F : Fed) where
   called B i = calledFor B (changeIn (F .changes) i)
 
   -- what the first n calls leave; its word is the last one's answer
-  unfoldable pub rowAfter : Bytes → ℕ → Bytes
-  rowAfter B zero = B
-  rowAfter B (suc n) = called (rowAfter B n) n
+  unfoldable pub afterCalls : Bytes → ℕ → Bytes
+  afterCalls B zero = B
+  afterCalls B (suc n) = called (afterCalls B n) n
 
   abbrev pub numberAt : Bytes → ℕ → ℕ
-  numberAt B i = rowAfter B (suc i) .word % 256
+  numberAt B i = afterCalls B (suc i) .word % 256
 
   abbrev pub countAt : Bytes → ℕ → ℕ
-  countAt B i = rowAfter B (suc i) .word / 256
+  countAt B i = afterCalls B (suc i) .word / 256
 
--- the row's number, and every byte afterwards
-pub record RowRan : Type 0 where
+-- the number of it all, and every byte afterwards
+pub record InTurn : Type 0 where
   pub number : ℕ
   pub readings : List ℕ
   pub rows : List ℕ
@@ -60,16 +60,16 @@ pub record RowRan : Type 0 where
   pub numbers : List ℕ
   pub counts : List ℕ
 
-abbrev pub rowRan : ℕ → Bytes → List ℕ → List ℕ → RowRan
-rowRan n B ns ks = record { number = n; readings = B .readings; rows = B .rows; cols = B .cols; values = B .values; numbers = ns; counts = ks }
+abbrev pub inTurn : ℕ → Bytes → List ℕ → List ℕ → InTurn
+inTurn n B ns ks = record { number = n; readings = B .readings; rows = B .rows; cols = B .cols; values = B .values; numbers = ns; counts = ks }
 
 -- 1: the slice is no whole number of changes; 7: a sheet has no word for each of them
-unfoldable pub rowNumber : List ℕ → List ℕ → List ℕ → ℕ
-rowNumber ch ns ks =
+unfoldable pub inTurnNumber : List ℕ → List ℕ → List ℕ → ℕ
+inTurnNumber ch ns ks =
     firstOf (test 1 (not (eqb (length ch % 12) 0)) ∷ test 7 (ltb (length ns / 4) (length ch / 12) || ltb (length ks / 4) (length ch / 12)) ∷ [])
 
-unfoldable pub rowCall : Fed → Bytes → List ℕ → List ℕ → RowRan
-rowCall F B ns ks =
-    cond (eqb (rowNumber (F .changes) ns ks) 0)
-    (rowRan 0 (rowAfter F B (length (F .changes) / 12)) (front (wordBytes (made (numberAt F B) (length (F .changes) / 12))) ns) (front (wordBytes (made (countAt F B) (length (F .changes) / 12))) ks))
-    (rowRan (rowNumber (F .changes) ns ks) B ns ks)
+unfoldable pub inTurnCall : Fed → Bytes → List ℕ → List ℕ → InTurn
+inTurnCall F B ns ks =
+    cond (eqb (inTurnNumber (F .changes) ns ks) 0)
+    (inTurn 0 (afterCalls F B (length (F .changes) / 12)) (front (wordBytes (made (numberAt F B) (length (F .changes) / 12))) ns) (front (wordBytes (made (countAt F B) (length (F .changes) / 12))) ks))
+    (inTurn (inTurnNumber (F .changes) ns ks) B ns ks)

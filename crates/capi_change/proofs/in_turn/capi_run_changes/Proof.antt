@@ -1,13 +1,13 @@
--- `capi_change::row::capi_run_changes` meets its contract: the loop goes by the row's last call. Assumes nothing.
+-- `capi_change::in_turn::capi_run_changes` meets its contract: the loop goes by the last call. Assumes nothing.
 use mathlib.Core.Path.{_≡_, refl}
 use Prim.Native.Nat.{_-_, _≤_}
 use native.Mathlib.Omega.{arith}
 use lib.ListN.{length}
 use Rattle.capi_change.specs.Told.{leaves}
-use Rattle.capi_change.specs.Row.{fed}
-use Rattle.capi_change.proofs.Rows.{Calling, begin, more, row-uneven, row-short-numbers, row-short-counts, row-done}
-use Rattle.capi_change.proofs.row.capi_run_changes.Statement.{statement}
-use Rattle.capi_change.proofs.row.capi_run_changes.Tie as tie
+use Rattle.capi_change.specs.InTurn.{fed}
+use Rattle.capi_change.proofs.InTurn.{Calling, begin, more, uneven, short-numbers, short-counts, done}
+use Rattle.capi_change.proofs.in_turn.capi_run_changes.Statement.{statement}
+use Rattle.capi_change.proofs.in_turn.capi_run_changes.Tie as tie
 
 abbrev Inv-loop : tie.InvT-loop
 Inv-loop wiring readings₀ term-index term-coefficient solution rows₀ cols₀ values₀ changes numbers₀ counted₀ n i₀ readings rows cols values numbers counted i =
@@ -22,21 +22,21 @@ returns c =
     let a = c .before .before .before .before .before .before .before .before .before .before .before .before .args in
     let f = fed (a .wiring .now) (a .term-index .now) (a .term-coefficient .now) (a .solution .now) (a .changes .now) in
     let b = leaves 0 (a .readings .now) (a .rows .now) (a .cols .now) (a .values .now) in
-    row-uneven f b (a .numbers .now) (a .counted .now) (c .if1 .taken)
+    uneven f b (a .numbers .now) (a .counted .now) (c .if1 .taken)
 
 returns-2 : tie.Need-returns-2 Inv-loop μ-loop
 returns-2 c =
     let a = c .before .before .before .before .before .before .before .before .before .before .before .before .before .args in
     let f = fed (a .wiring .now) (a .term-index .now) (a .term-coefficient .now) (a .solution .now) (a .changes .now) in
     let b = leaves 0 (a .readings .now) (a .rows .now) (a .cols .now) (a .values .now) in
-    row-short-numbers f b (a .numbers .now) (a .counted .now) (c .before .if1 .left) (c .if2 .taken)
+    short-numbers f b (a .numbers .now) (a .counted .now) (c .before .if1 .left) (c .if2 .taken)
 
 returns-3 : tie.Need-returns-3 Inv-loop μ-loop
 returns-3 c =
     let a = c .before .before .before .before .before .before .before .before .before .before .before .before .before .before .args in
     let f = fed (a .wiring .now) (a .term-index .now) (a .term-coefficient .now) (a .solution .now) (a .changes .now) in
     let b = leaves 0 (a .readings .now) (a .rows .now) (a .cols .now) (a .values .now) in
-    row-short-counts f b (a .numbers .now) (a .counted .now) (c .before .before .if1 .left) (c .before .if2 .left) (c .if3 .taken)
+    short-counts f b (a .numbers .now) (a .counted .now) (c .before .before .if1 .left) (c .before .if2 .left) (c .if3 .taken)
 
 loop-holds : tie.Need-loop-holds Inv-loop μ-loop
 loop-holds c =
@@ -79,7 +79,7 @@ returns-4 c =
     let f = fed (a .wiring .now) (a .term-index .now) (a .term-coefficient .now) (a .solution .now) (a .changes .now) in
     let b = leaves 0 (a .readings .now) (a .rows .now) (a .cols .now) (a .values .now) in
     let l = c .before .loop .inv in
-    row-done f b (a .numbers .now) (a .counted .now) (c .before .before .before .before .if1 .left) (c .before .before .before .if2 .left) (c .before .before .if3 .left) refl (l .1) (omega (arith, c .loop-test)) (l .0)
+    done f b (a .numbers .now) (a .counted .now) (c .before .before .before .before .if1 .left) (c .before .before .before .if2 .left) (c .before .before .if3 .left) refl (l .1) (omega (arith, c .loop-test)) (l .0)
 
 pub capi-run-changes-spec : {M : Type 1} → statement M
 capi-run-changes-spec =

@@ -1,6 +1,6 @@
--- The terms in two arrays: the arrays' lengths, their fronts, and the call on the fronts.
--- Main results: `long`, `indexes-length`, `index-more`, `coefficient-more`, `stored-apart`, `apart`, `called`, `array-called`. Assumes nothing.
-use Prim.Native.Nat.{ℕ, zero, suc, _+_, _≤_, _<_}
+-- The terms in one array of records, and in two arrays: lengths, fronts, and the call on the fronts.
+-- Main results: `long`, `indexes-length`, `collected`, `stored-apart`, `array-called`, `called`. Assumes nothing.
+use Prim.Native.Nat.{ℕ, suc, _+_, _≤_, _<_}
 use native.Mathlib.Numerals.{add-one}
 use native.Mathlib.Omega.{arith}
 use mathlib.Core.Path.{_≡_, refl, sym, ap, _∙_}
@@ -23,7 +23,7 @@ use Rattle.model.specs.Quantities.{evaluate}
 use Rattle.model.proofs.Calls.{element-refused}
 use Rattle.terms.specs.declared.Term.{Term}
 use Rattle.terms.specs.declared.Columns.{Columns}
-use Rattle.terms.specs.Terms.{none, indexesOf, coefficientsOf, networkOf, arrayCall, Apart, columnsCall}
+use Rattle.terms.specs.Terms.{none, indexesOf, coefficientsOf, networkOf, arrayCall, Collected, Apart, columnsCall}
 use Rattle.terms.proofs.Columns as T
 use Rattle.terms.proofs.Columns.Laws as T′
 
@@ -61,6 +61,16 @@ coefficient-none xs ts i l = rw (drop-of-length-le ts l)
 front-sets : {A : Type 0} (vs xs : List A) (n : ℕ) → length vs ≡ n → n ≤ length xs → take n (sets xs 0 vs) ≡ vs
 front-sets vs xs n e l = ap (take n) (sets-eq vs xs 0 (omega arith)) ∙ take-at vs (drop (0 + length vs) xs) n e
 
+-- what is left to store from place i on, one term less
+pub term-more : (xs ts : List Term) (i : ℕ) → i < length ts → sets xs i (drop i ts) ≡ sets (set xs i (getD ts i none)) (i + 1) (drop (i + 1) ts)
+term-more xs ts i l = rw (add-one, drop-cons ts i none)
+
+-- an array in which all terms are stored has them in front
+pub collected : (xs xs₀ ts : List Term) (i : ℕ) → length xs₀ ≡ 1024 → length ts ≤ 1024 → length ts ≤ i → sets xs i (drop i ts) ≡ sets xs₀ 0 ts → take (length ts) xs ≡ ts
+collected xs xs₀ ts i s l h e =
+    let none-left : sets xs i (drop i ts) ≡ xs = rw (drop-of-length-le ts h) in
+    ap (take (length ts)) (sym none-left ∙ e) ∙ front-sets ts xs₀ (length ts) refl (omega (arith, s, l))
+
 -- arrays in which all terms are stored are the terms apart
 pub stored-apart : (ts : List Term) (xs₀ : List ℕ) (ys₀ : List Float) {xs : List ℕ} {ys : List Float} → length xs₀ ≡ 1024 → length ys₀ ≡ 1024 → xs ≡ sets xs₀ 0 (indexesOf ts) → ys ≡ sets ys₀ 0 (coefficientsOf ts)
     → Apart ts (record { indexes = xs; coefficients = ys })
@@ -68,9 +78,6 @@ stored-apart ts xs₀ ys₀ a b p q l = (
   ap (take (length ts)) p ∙ front-sets (indexesOf ts) xs₀ (length ts) (indexes-length ts) (omega (arith, a)),
   ap (take (length ts)) q ∙ front-sets (coefficientsOf ts) ys₀ (length ts) (coefficients-length ts) (omega (arith, b)),
 )
-
-pub apart : (ts : List Term) (c d : Columns) → (length (c .indexes) ≡ 1024) × (length (c .coefficients) ≡ 1024) → d .indexes ≡ sets (c .indexes) 0 (indexesOf ts) → d .coefficients ≡ sets (c .coefficients) 0 (coefficientsOf ts) → Apart ts d
-apart ts c d s p q = stored-apart ts (c .indexes) (c .coefficients) (s .0) (s .1) p q
 
 -- ---- the call
 
@@ -84,13 +91,6 @@ refused N l q f pg sheet =
     element-refused N (eqb (length f) (counted N .branches) && eqb (length pg) (counted N .generators)) (allWithin sheetLimit f && allWithin sheetLimit pg) q (counted N .rows)
     (evaluate (counted N) (N .wiring) (N .indexes) (N .coefficients) q f pg) sheet (number-size N _ _ (too-many N l (sizesHold N) refl)) (λ z. absurd (omega (arith, z)))
 
--- the call on the fronts is the call on the terms
-pub called : (w : List ℕ) (r : List Float) (ts : List Term) (c : Columns) (q : ℕ) (f pg sheet : List Float) → Apart ts c → (b : Bool) → leb (length ts) 1024 ≡ b
-    → columnsCall w r c (length ts) q f pg sheet ≡ evaluateCall (networkOf w r ts) q f pg sheet
-unfolding columnsCall
-called w r ts c q f pg sheet h true e = rw (e, h (leb-true _ _ e) .0, h (leb-true _ _ e) .1)
-called w r ts c q f pg sheet h false e = rw e (refused (networkOf w r ts) (rw (indexes-length ts) (leb-false _ _ e)) q f pg sheet)
-
 -- ---- the first n of an array
 
 -- the call on the fronts of n places is the call on the first n terms
@@ -103,3 +103,10 @@ array-called w r ts c n q f pg sheet s h true e =
     let k : length (take n ts) ≡ n = length-take-le n ts (omega (arith, s, l)) in
     let a = h l (omega (arith, k, l)) in
     rw (e, sym (ap (λ (j : ℕ). take j (c .indexes)) k) ∙ a .0, sym (ap (λ (j : ℕ). take j (c .coefficients)) k) ∙ a .1)
+
+-- the call on an array that has the terms in front is the call on them
+pub called : (w : List ℕ) (r : List Float) (ts c : List Term) (q : ℕ) (f pg sheet : List Float) → Collected ts c → (b : Bool) → leb (length ts) 1024 ≡ b
+    → arrayCall w r c (length ts) q f pg sheet ≡ evaluateCall (networkOf w r ts) q f pg sheet
+unfolding arrayCall
+called w r ts c q f pg sheet h true e = rw (e, h .1 (leb-true _ _ e))
+called w r ts c q f pg sheet h false e = rw e (refused (networkOf w r ts) (rw (indexes-length ts) (leb-false _ _ e)) q f pg sheet)

@@ -1,10 +1,10 @@
 -- A network whose terms are a slice of records: their indexes and their coefficients, in order.
--- Main definitions: `indexesOf`, `coefficientsOf`, `networkOf`, `arrayCall`, `Apart`. Assumes nothing.
+-- Main definitions: `indexesOf`, `coefficientsOf`, `networkOf`, `arrayCall`. Assumes nothing.
 use Prim.Native.Nat.{ℕ, _≤_}
 use mathlib.Core.Path.{_≡_}
 use mathlib.Core.Bool.{cond}
 use mathlib.Core.List.{List, [], _∷_}
-use lib.ListN.{length, set, take}
+use lib.ListN.{length, take}
 use lib.Dec.{leb}
 use lib.Ieee.{Float, nan}
 use Rattle.sequence.specs.Answers.{Filled, filled}
@@ -33,11 +33,11 @@ networkOf w r ts = record { wiring = w; readings = r; indexes = indexesOf ts; co
 unfoldable pub arrayCall : List ℕ → List Float → List Term → ℕ → ℕ → List Float → List Float → List Float → Filled Float
 arrayCall w r ts n q f pg sheet = cond (leb n 1024) (evaluateCall (networkOf w r (take n ts)) q f pg sheet) (filled 1 0 sheet)
 
--- ---- on the way: the terms in two arrays
+-- ---- on the way: the terms in an array, and in two
 
--- a term's index and coefficient at place i
-abbrev pub putAt : Columns → ℕ → Term → Columns
-putAt c i t = record { indexes = set (c .indexes) i (t .index); coefficients = set (c .coefficients) i (t .coefficient) }
+-- the terms are in front of an array, where it has room for them
+abbrev pub Collected : List Term → List Term → Type 0
+Collected ts r = (length r ≡ 1024) × (length ts ≤ 1024 → take (length ts) r ≡ ts)
 
 -- the arrays' fronts are the terms, where there is room for them
 abbrev pub Apart : List Term → Columns → Type 0

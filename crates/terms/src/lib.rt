@@ -1,4 +1,4 @@
-// The terms as a lent slice of small records, each an index and a coefficient: taken apart into two arrays for the model's own call.
+// The terms as small records, each an index and a coefficient, by value or as a lent slice: taken apart into two arrays for the model's own call.
 use model::dc;
 use sequence::Answer;
 ghost use mathlib.Core.Path.{_≡_};
@@ -6,7 +6,7 @@ ghost use Prim.Native.Nat.{ℕ, _≤_};
 ghost use lib.ListN.{take};
 ghost use Rattle.sequence.specs.Answers.{filled};
 ghost use Rattle.model.specs.Calls.{evaluateCall};
-ghost use Rattle.terms.specs.Terms.{putAt, Apart, columnsCall, networkOf, arrayCall};
+ghost use Rattle.terms.specs.Terms.{Apart, columnsCall, networkOf, arrayCall, Collected};
 
 pub struct Term {
     pub index: u32,
@@ -19,49 +19,36 @@ struct Columns {
     coefficients: [f64; 1024],
 }
 
-fn blank() -> Columns {
-    let indexes = [0u32; 1024];
-    let coefficients = [0.0; 1024];
-    Columns {
-        indexes,
-        coefficients,
-    }
+fn blank() -> [Term; 1024] {
+    let none = Term {
+        index: 0,
+        coefficient: 0.0,
+    };
+    [none; 1024]
 }
 
-// One term more, at place i; nothing past the arrays.
-fn put(c: Columns, i: usize, t: Term) -> Columns
-    ensures { λ r. ⌜ r ≡ putAt c i t ⌝ }
-{
-    let mut d = c;
-    if i < 1024 {
-        d.indexes[i] = t.index;
-        d.coefficients[i] = t.coefficient;
-    }
-    d
-}
-
-// How many terms are taken apart: all, or none where the arrays have no room for them.
+// How many terms are taken: all, or none where the arrays have no room for them.
 fn to_take(n: usize) -> usize
     ensures { λ (r : ℕ). ⌜ (r ≤ n) × ((n ≤ 1024 → r ≡ n) × (r ≤ 1024)) ⌝ }
 {
-    if n > 1024 {
+    if 1024 < n {
         return 0;
     }
     n
 }
 
-// The terms taken apart.
-fn take_apart(terms: &[Term]) -> Columns
-    ensures { λ r. ⌜ Apart (now (terms .entry)) r ⌝ }
+// The terms in front of an array, where it has room for them.
+fn collect(terms: &[Term]) -> [Term; 1024]
+    ensures { λ r. ⌜ Collected (now (terms .entry)) r ⌝ }
 {
-    let mut c = blank();
+    let mut ts = blank();
     let n = to_take(terms.len());
     let mut i: usize = 0;
     while i < n {
-        c = put(c, i, terms[i]);
+        ts[i] = terms[i];
         i += 1;
     }
-    c
+    ts
 }
 
 // A linear row's value, the terms being the fronts of n places.
@@ -117,31 +104,7 @@ fn array_apart(terms: [Term; 1024], n: usize) -> Columns
     }
 }
 
-// A linear row's value at flows and powers.
-pub fn evaluate(
-    wiring: &[u32],
-    readings: &[f64],
-    terms: &[Term],
-    row: usize,
-    f: &[f64],
-    pg: &[f64],
-    out: &mut [f64],
-) -> Answer
-    ensures { λ a. ⌜ filled (a .number) (a .count) (now (out .exit)) ≡ evaluateCall (networkOf (now (wiring .entry)) (now (readings .entry)) (now (terms .entry))) row (now (f .entry)) (now (pg .entry)) (now (out .entry)) ⌝ }
-{
-    evaluate_columns(
-        wiring,
-        readings,
-        take_apart(terms),
-        terms.len(),
-        row,
-        f,
-        pg,
-        out,
-    )
-}
-
-// The same, the terms being the first n of an array: a caller makes no reference to a record.
+// A linear row's value at flows and powers, the terms being the first n of an array: a caller makes no reference to a record.
 pub fn evaluate_array(
     wiring: &[u32],
     readings: &[f64],
@@ -155,4 +118,28 @@ pub fn evaluate_array(
     ensures { λ a. ⌜ filled (a .number) (a .count) (now (out .exit)) ≡ arrayCall (now (wiring .entry)) (now (readings .entry)) terms n row (now (f .entry)) (now (pg .entry)) (now (out .entry)) ⌝ }
 {
     evaluate_columns(wiring, readings, array_apart(terms, n), n, row, f, pg, out)
+}
+
+// The same for a lent slice of terms.
+pub fn evaluate(
+    wiring: &[u32],
+    readings: &[f64],
+    terms: &[Term],
+    row: usize,
+    f: &[f64],
+    pg: &[f64],
+    out: &mut [f64],
+) -> Answer
+    ensures { λ a. ⌜ filled (a .number) (a .count) (now (out .exit)) ≡ evaluateCall (networkOf (now (wiring .entry)) (now (readings .entry)) (now (terms .entry))) row (now (f .entry)) (now (pg .entry)) (now (out .entry)) ⌝ }
+{
+    evaluate_array(
+        wiring,
+        readings,
+        collect(terms),
+        terms.len(),
+        row,
+        f,
+        pg,
+        out,
+    )
 }

@@ -1,5 +1,5 @@
 -- Change calls in turn, by the last one: what they have left and written so far. Main results: `begin`, `more`; `uneven`, `short-numbers`, `short-counts`, `done`. Assumes nothing.
-use mathlib.Core.Path.{_≡_, refl, sym, ap, _∙_}
+use mathlib.Core.Path.{_≡_, refl, ap, _∙_}
 use mathlib.Core.List.{List}
 use Prim.Native.Nat.{ℕ, suc, _+_, _*_, _/_, _%_, _≤_, _<_}
 use native.Mathlib.Numerals.{add-one}

@@ -1,7 +1,7 @@
 -- A list of changes on bytes: one change call after the other, each on the bytes that the last one left.
 -- Main definitions: `afterCalls`, `inTurnCall`. Assumes nothing.
 use Prim.Native.Nat.{ℕ, zero, suc, _+_, _*_, _/_, _%_}
-use mathlib.Core.Bool.{Bool, cond, not, _&&_, _||_}
+use mathlib.Core.Bool.{cond, not, _&&_, _||_}
 use mathlib.Core.List.{List, [], _∷_}
 use lib.ListN.{length}
 use lib.Dec.{eqb, ltb}
@@ -11,7 +11,7 @@ use Rattle.words.specs.Words.{at32, wordsOf, doublesOf, wordBytes}
 use Rattle.kkt.specs.Slots.Rule.{firstPlace}
 use Rattle.decoding.specs.Exports.{whole}
 use Rattle.job_book.specs.Book.{Change, change, given, words, step}
-use Rattle.capi_change.specs.Told.{Bytes, leaves, toldBytes}
+use Rattle.capi_change.specs.Told.{Bytes, toldBytes}
 
 -- change i of a slice, twelve bytes each
 abbrev pub changeIn : List ℕ → ℕ → Change

@@ -10,12 +10,12 @@ use lib.ListN.{length, take}
 use lib.Ieee.{Float}
 use borrow.Author.Tests.{ltb-false, eqb-true}
 use Rattle.sequence.specs.Lists.{front}
-use Rattle.sequence.specs.Answers.{Test, test, firstOf, marked, short, Filled, filled}
+use Rattle.sequence.specs.Answers.{test, firstOf, marked, short, Filled, filled}
 use Rattle.sequence.proofs.Lists.{made-length}
 use Rattle.sequence.proofs.Answers.{front-passed}
 use Rattle.sequence.proofs.Fronts.{take-front}
 use Rattle.words.specs.Words.{doubleAt, doublesOf, doubleBytes, joined}
-use Rattle.network.specs.Numbers.{Network, sizesHold, networkTests}
+use Rattle.network.specs.Numbers.{Network, sizesHold}
 use Rattle.interface.specs.declared.Mode.{Mode}
 use Rattle.interface.specs.declared.Mode.the-variants.{Forward, Adjoint, Auto}
 use Rattle.contraction.specs.Contraction.{Selector, elements, sides}

@@ -1,14 +1,12 @@
 -- Three byte slices that hold a network whose terms are records: what fits where its sizes hold, and the network that was decoded. Assumes nothing.
-use mathlib.Core.Path.{_≡_, refl, sym, ap, _∙_}
+use mathlib.Core.Path.{_≡_}
 use mathlib.Core.Bool.{Bool, true, false, not, _&&_}
 use mathlib.Core.List.{List}
 use Prim.Native.Nat.{ℕ, _/_, _≤_}
 use native.Mathlib.Omega.{arith}
-use lib.Dec.{leb}
 use lib.ListN.{length, take}
 use lib.Ieee.{Float}
 use borrow.Author.Tests.{le-leb}
-use Rattle.sequence.specs.Answers.{Filled}
 use Rattle.sequence.proofs.Lists.{and-left, and-right, failed, held as kept, made-length}
 use Rattle.words.specs.Words.{wordAt, doubleAt, wordsOf, doublesOf}
 use Rattle.network.specs.Numbers.{Network, sizesHold}

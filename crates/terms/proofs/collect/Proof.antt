@@ -2,9 +2,9 @@
 --     St         what a turn starts from: i, the array so far, and that storing the terms from i on gives what storing them all in the first array gives
 --     At st      what is had there.        turn-by    a turn, as its test comes out.        walk, counts, begins    the MIR up to the loop, in three parts
 -- Assumes nothing.
-use mathlib.Core.Path.{_≡_, refl, sym, subst, _∙_, ap}
+use mathlib.Core.Path.{_≡_, refl, sym, subst, _∙_}
 use Prim.Native.Nat.{ℕ, _+_, _-_, _*_, _≤_, _<_, _^_, zero-le}
-use native.Mathlib.Nat.{lt-of-le-of-lt, lt-of-lt-of-le, le-of-lt}
+use native.Mathlib.Nat.{lt-of-le-of-lt, lt-of-lt-of-le}
 use native.Mathlib.Numerals.{add-one-le, add-one-dec}
 use native.Mathlib.Omega.{arith}
 use mathlib.Core.Bool.{Bool, true, false}
@@ -27,7 +27,7 @@ use prog.Wp.{Heap, Out, Env, afterSeq, afterBlock, afterTurn, Calls, Loops, Wp, 
 use ghost.Atoms.{Atoms, sem}
 use contract.Monad.{Fun, fact}
 use contract.Running.{givenOf, tables, tablesOf}
-use types.Kit.{Given, Item, ‵, raw, _⊛_, ⋆, some, later, runs, anyQ, atRet, Sq, _$_, _∵_, !, qed, by, move, keep, drop as lose, use1, use2, split, join, pick, rewrite, fsplit, fsplit3, fjoin, fjoin3, fpick, fpack, feqI, feqL, suffices, frame, await, done}
+use types.Kit.{Given, Item, ‵, raw, _⊛_, ⋆, some, later, runs, anyQ, atRet, Sq, _$_, _∵_, !, qed, by, move, keep, drop as lose, use1, use2, split, join, pick, rewrite, fsplit, fsplit3, fjoin, fjoin3, fpick, fpack, feqI, suffices, frame, await, done}
 use types.Part.{whole, sub, look-in}
 use types.Run.{look, look-raw, store, init, forget, stop, hop, fld, from, load, lit, of-opd, addr, bin, and-then, no-more, assigns, assigns-last, first, blocks, stays, leaves-loop, land, returns, enter, alloc1, alloc0, params1, pass1, pass0, free1, free0, exec, Below, again, loops}
 use types.Share.{arr-parts}

@@ -1,5 +1,7 @@
 // What the numbers stand for by which other languages ask for a parameter, an operand or a mode, and the unit scale
 // asked for by such numbers.
+#![tactic(auto)]
+
 ghost use Rattle.std.specs.Prelude.{◌≡◌};
 ghost use Rattle.sequence.specs.Answers.{filled};
 ghost use Rattle.interface.specs.Codes.{operand_of, parameter_of, mode_of};

@@ -3,7 +3,7 @@
 use mathlib.Core.Path.{◌≡◌, refl, sym, ap, ◌∙◌}
 use mathlib.Core.Bool.{Bool, true, false, not, cond, ◌&&◌}
 use Prim.Native.Nat.{ℕ, ◌+◌, ◌-◌, ◌*◌, ◌<◌}
-use native.Mathlib.Nat.{one_mul, mul-pos}
+use native.Mathlib.Nat.{one-mul, mul-pos}
 use native.Mathlib.Decide.{dec_lt}
 use native.Mathlib.Omega.{arith}
 use lib.IntN.{pos}
@@ -27,9 +27,9 @@ one_by_fin nan h = refl
 one_by_fin (inf true) h = refl
 one_by_fin (inf false) h = refl
 one_by_fin (fin true m e) h =
-    ap (λ (a : ℕ). round binary64 true a (1 * down e)) (one_mul (m * up e)) ∙ ap (λ (b : ℕ). round binary64 true (m * up e) b) (one_mul (down e)) ∙ round_back binary64 true m e h
+    ap (λ (a : ℕ). round binary64 true a (1 * down e)) (one-mul (m * up e)) ∙ ap (λ (b : ℕ). round binary64 true (m * up e) b) (one-mul (down e)) ∙ round_back binary64 true m e h
 one_by_fin (fin false m e) h =
-    ap (λ (a : ℕ). round binary64 false a (1 * down e)) (one_mul (m * up e)) ∙ ap (λ (b : ℕ). round binary64 false (m * up e) b) (one_mul (down e)) ∙ round_back binary64 false m e h
+    ap (λ (a : ℕ). round binary64 false a (1 * down e)) (one-mul (m * up e)) ∙ ap (λ (b : ℕ). round binary64 false (m * up e) b) (one-mul (down e)) ∙ round_back binary64 false m e h
 
 -- 1 x = x, (−1) x = −x
 pub one_by : (x : Float) → T (fits binary64 x) → mul binary64 one x ≡ x

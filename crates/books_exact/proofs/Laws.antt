@@ -16,13 +16,13 @@ module _ {A : Type 0} (𝓡 : CommRing A) where
   mul_add = semiring.is_non_unital_semiring.is_non_unital_non_assoc_semiring.left_distrib
 
   pub mul_zero : (a : A) → a * 𝟘 ≡ 𝟘
-  mul_zero = semiring.is_non_unital_semiring.is_non_unital_non_assoc_semiring.mul_zero
+  mul_zero = semiring.is_non_unital_semiring.is_non_unital_non_assoc_semiring.mul-zero
 
   pub one_mul : (a : A) → 𝟙 * a ≡ a
-  one_mul = semiring.one_mul
+  one_mul = semiring.one-mul
 
   pub mul_one : (a : A) → a * 𝟙 ≡ a
-  mul_one = semiring.mul_one
+  mul_one = semiring.mul-one
 
   pub less_add : (a : A) → less a + a ≡ 𝟘
   less_add = 𝓡.is_comm_ring.is_ring.neg-add_cancel

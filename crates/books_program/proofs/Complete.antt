@@ -34,6 +34,7 @@ use Rattle.books_program.specs.Program.{row_at}
 module _ {A : Type 0} {P : A → Type 0} where
   -- in the first of two lists, in the second, and in one turn of a loop
   pub any_left : (l r : List A) → Any P l → Any P (l ++ r)
+  any_left [] r p = elim p [ ]
   any_left (x ∷ l) r (here p) = here p
   any_left (x ∷ l) r (there p) = there (any_left l r p)
 
@@ -53,6 +54,7 @@ module _ {A : Type 0} {P : A → Type 0} where
   -- and in list k of several
   pub any_joined : (l : List A) (ls : List (List A)) (k : ℕ) → Any P (get_or (l ∷ ls) k []) → Any P (joined l ls)
   any_joined l [] zero p = p
+  any_joined l [] (suc k) p = elim p [ ]
   any_joined l (m ∷ ls) zero p = any_left l (joined m ls) p
   any_joined l (m ∷ ls) (suc k) p = any_right l (joined m ls) (any_joined m ls k p)
 

@@ -1,1 +1,2 @@
 // The assembled program and the multipliers read back, beside the MATPOWER manual's DC program.
+#![tactic(auto)]

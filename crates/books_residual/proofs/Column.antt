@@ -84,4 +84,4 @@ base_in N c h =
 pub accepted_column : (N : Network) (c : Counts) (s : List Float) (k : Served) (i : ℕ) → Accepted N c → Doubles s → i < elements c k
     → ColumnIs c N.wiring N.readings N.indexes N.coefficients s k i
 accepted_column N c s k i h d l =
-    column_is_the_derivative c N.wiring N.readings N.indexes N.coefficients s k i h.wired d (base_in N c h.readings_hold) l
+    column_is_the_derivative c N.wiring N.readings N.indexes N.coefficients s k i h.wired d (base_in N c h.readings_pass) l

@@ -56,7 +56,7 @@ module _ (c : Counts) (p l : ℕ) where
   unfolding word_of placed
   word_placed a x h done = refl
   word_placed a x h (◌&◌ {x = t} {xs = ts} k ks) =
-      rw (one_test t.block a.0 t.index a.1 k h) (word_placed a _ h ks)
+      rw (one_test t.block a.0 t.index a.1 k h) (word_placed a (cond (eqb (rank t.block) (rank a.0) && eqb t.index a.1) (touched t.how x t.value) x) h ks)
 
   place_in : (b : Block) (i : ℕ) → Held b i → block_start c p l b + i < dim c p l
   unfolding block_start dim

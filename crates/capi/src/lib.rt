@@ -1,4 +1,6 @@
 // The calls as extern "C" functions on numbers and byte slices, for programs in other languages.
+#![tactic(auto)]
+
 mod buses;
 mod element;
 mod list;

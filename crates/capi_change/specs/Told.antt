@@ -1,7 +1,7 @@
 -- What the exported change calls do: on typed slices number and count go into one word; on bytes the slices' words and doubles are lent to the call, and what it leaves goes back as bytes.
 -- Main definitions: `telling`, `told_bytes`. Assumes nothing.
 use Rattle.std.specs.Prelude.{ℕ, Bool, cond, List, take, eqb}
-use Rattle.std.specs.Borrow.{Bor}
+use Rattle.std.specs.Borrow.{Bor, MutBor}
 use Rattle.sequence.specs.Lists.{front}
 use Rattle.words.specs.Words.{words_of, doubles_of, word_bytes, double_bytes}
 use Rattle.decoding.specs.Exports.{packed}
@@ -38,7 +38,7 @@ telling_run r = told_run r.number r.left r.numbers r.counts
 abbrev pub given_in : Bor (List ℕ) → Bor (List ℕ) → Bor (List ℕ) → Bor (List ℕ) → Given
 given_in w i k s = given (words_of w.now) (words_of i.now) (doubles_of k.now) (doubles_of s.now)
 
-abbrev pub words_in : Bor (List ℕ) → Bor (List ℕ) → Bor (List ℕ) → Bor (List ℕ) → Words
+abbrev pub words_in : MutBor (List ℕ) → MutBor (List ℕ) → MutBor (List ℕ) → MutBor (List ℕ) → Words
 words_in r a b v = words (doubles_of r.now) (words_of a.now) (words_of b.now) (doubles_of v.now)
 
 pub record Bytes : Type 0 where

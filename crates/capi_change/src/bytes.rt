@@ -2,7 +2,7 @@
 ghost use Rattle.std.specs.Prelude.{◌≡◌, true, ◌&&◌, [], ◌*◌, length};
 ghost use Rattle.words.specs.Words.{words_of, doubles_of};
 ghost use Rattle.kkt.specs.Slots.Rule.{first_place};
-ghost use Rattle.decoding.specs.Exports.{whole, all_whole};
+ghost use Rattle.decoding.specs.Exports.{whole};
 ghost use Rattle.decoding.specs.Decoding.{ListCells};
 ghost use Rattle.job_book.specs.Book.{change, given, words, step};
 ghost use Rattle.capi_change.specs.Told.{given_in, words_in, leaves, told_bytes};
@@ -69,7 +69,7 @@ pub extern "C" fn capi_change(
     low: u32,
     high: u32,
 ) -> u64
-    ensures { leaves result readings.new rows.new cols.new values.new ≡ told_bytes (all_whole wiring.entry readings.entry term_index.entry term_coefficient.entry && whole 8 solution.now) (step (given_in wiring.entry term_index.entry term_coefficient.entry solution.entry) first_place (λ W h. []) (words_in readings.entry rows.entry cols.entry values.entry) (change head low high)) readings.old rows.old cols.old values.old }
+    ensures { leaves result readings.new rows.new cols.new values.new ≡ told_bytes ((whole 4 wiring.now && (whole 8 readings.old && (whole 4 term_index.now && whole 8 term_coefficient.now))) && whole 8 solution.now) (step (given_in wiring.entry term_index.entry term_coefficient.entry solution.entry) first_place (λ W h. []) (words_in readings.entry rows.entry cols.entry values.entry) (change head low high)) readings.old rows.old cols.old values.old }
 {
     let mut w = [0u32; 3033];
     let mut r = [0.0; 8065];

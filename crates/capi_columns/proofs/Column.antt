@@ -4,7 +4,7 @@ use mathlib.Core.Path.{◌≡◌, refl, sym, ap, ◌∙◌}
 use mathlib.Core.Bool.{Bool, true, false, cond, not, ◌&&◌}
 use mathlib.Core.List.{List, [], ◌∷◌, ◌++◌}
 use Prim.Native.Nat.{ℕ, ◌/◌, ◌≤◌}
-use native.Mathlib.Nat.{mul_zero, mul_one}
+use native.Mathlib.Nat.{mul-zero, mul-one}
 use native.Mathlib.Omega.{arith}
 use lib.Dec.{T, eqb}
 use lib.ListN.{length, take}
@@ -44,12 +44,12 @@ module _ (d i : ℕ) (result : List Float) where
   -- a refusal leaves the bytes as they were
   refusal : {j : ℕ} (sheet : List Float) (bs : List ℕ) → (j ≡ 0 → ⊥) → column_out true d (columns_filled j (i ∷ []) result sheet) bs ≡ out (packed j 0) bs
   unfolding column_out columns_filled front joined
-  refusal {j} sheet bs h = rw (ne_eqb j 0 h, mul_zero d)
+  refusal {j} sheet bs h = rw (ne_eqb j 0 h, mul-zero d)
 
   -- a result of d doubles is in front, whatever sheet it is cut from
   result_front : (sheet : List Float) (bs : List ℕ) → length result ≡ d → column_out true d (columns_filled 0 (i ∷ []) result sheet) bs ≡ out (packed 0 1) (front (double_bytes result) bs)
   unfolding column_out columns_filled
-  result_front sheet bs e = rw (mul_one d, take_front result sheet d e)
+  result_front sheet bs e = rw (mul-one d, take_front result sheet d e)
 
 module _ (N : Network) (s : List Float) (i : ℕ) where
   -- ---- lengths

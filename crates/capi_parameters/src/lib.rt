@@ -1,4 +1,6 @@
 // `parameter_jacobian` as an extern "C" function on typed slices, for programs in other languages.
+#![tactic(auto)]
+
 ghost use Rattle.std.specs.Prelude.{◌≡◌};
 ghost use Rattle.network.specs.Numbers.{lent};
 ghost use Rattle.interface.specs.Codes.{parameter_of};

@@ -7,7 +7,7 @@ use Prim.Native.Nat.{ℕ, ◌/◌, ◌≤◌}
 use native.Mathlib.Omega.{arith}
 use lib.ListN.{length}
 use lib.Ieee.{Float}
-use borrow.Author.Tests.{not-true}
+use borrow.Author.Tests.{not-true, not-false}
 use Rattle.sequence.specs.Answers.{test, first_of, marked, short, filled}
 use Rattle.sequence.proofs.Lists.{and_left, and_right, failed, held as kept, made_length}
 use Rattle.words.specs.Words.{double_at, doubles_of}
@@ -107,10 +107,10 @@ module _ (N : Network) (ok : Bool) (x z : List ℕ) where
   unsized_raw r h = contrary _ _ both (r.refused (not-true _ h))
 
   pub unsized_primal : {r : Bool} → r ≡ fits 8 x 1536 → not r ≡ true → whole_raw && sized_raw ≡ false
-  unsized_primal e h = contrary _ _ primal_fits (failed e h)
+  unsized_primal e h = contrary _ _ primal_fits (failed e (not-true _ h))
 
   pub unsized_dual : {r : Bool} → r ≡ fits 8 z 5072 → not r ≡ true → whole_raw && sized_raw ≡ false
-  unsized_dual e h = contrary _ _ dual_fits (failed e h)
+  unsized_dual e h = contrary _ _ dual_fits (failed e (not-true _ h))
 
   pub wholly_raw : ok ≡ true → {r s : Bool} → r ≡ fits 8 x 1536 → not r ≡ false → s ≡ fits 8 z 5072 → not s ≡ false → whole_raw ≡ true
-  wholly_raw o e h d g = rw (o, whole_of 8 x 1536 (kept e h), whole_of 8 z 5072 (kept d g))
+  wholly_raw o e h d g = rw (o, whole_of 8 x 1536 (kept e (not-false _ h)), whole_of 8 z 5072 (kept d (not-false _ g)))

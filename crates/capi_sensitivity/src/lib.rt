@@ -1,5 +1,7 @@
 // The selector, the contraction around an outside solve and the unit scale as extern "C" functions on typed
 // slices, for programs in other languages.
+#![tactic(auto)]
+
 ghost use Rattle.std.specs.Prelude.{◌≡◌, ◌≤◌, length};
 ghost use Rattle.sequence.specs.Lists.{front};
 ghost use Rattle.network.specs.Numbers.{lent};

@@ -6,7 +6,7 @@ use Prim.Native.Nat.{ℕ, ◌/◌, ◌≤◌}
 use native.Mathlib.Omega.{arith}
 use lib.ListN.{length, take}
 use lib.Ieee.{Float}
-use borrow.Author.Tests.{le-leb}
+use borrow.Author.Tests.{le-leb, not-true, not-false}
 use Rattle.sequence.proofs.Lists.{and_left, and_right, failed, held as kept, made_length}
 use Rattle.words.specs.Words.{word_at, double_at, words_of, doubles_of}
 use Rattle.network.specs.Numbers.{Network, sizes_hold}
@@ -47,16 +47,16 @@ module _ (w r t : List ℕ) where
 
   -- a slice that does not fit is ragged, or the sizes do not hold
   pub no_wiring : {b : Bool} → b ≡ fits 4 w 3033 → not b ≡ true → wholes && sizes_hold network ≡ false
-  no_wiring q h = contrary _ _ wiring_fits (failed q h)
+  no_wiring q h = contrary _ _ wiring_fits (failed q (not-true _ h))
 
   pub no_readings : {b : Bool} → b ≡ fits 8 r 8065 → not b ≡ true → wholes && sizes_hold network ≡ false
-  no_readings q h = contrary _ _ readings_fit (failed q h)
+  no_readings q h = contrary _ _ readings_fit (failed q (not-true _ h))
 
   pub no_terms : {b : Bool} → b ≡ fits 12 t 1024 → not b ≡ true → wholes && sizes_hold network ≡ false
-  no_terms q h = contrary _ _ terms_fit (failed q h)
+  no_terms q h = contrary _ _ terms_fit (failed q (not-true _ h))
 
   pub all_whole : {a b c : Bool} → a ≡ fits 4 w 3033 → not a ≡ false → b ≡ fits 8 r 8065 → not b ≡ false → c ≡ fits 12 t 1024 → not c ≡ false → wholes ≡ true
-  all_whole p f q g s h = rw (whole_of 4 w 3033 (kept p f), whole_of 8 r 8065 (kept q g), whole_of 12 t 1024 (kept s h))
+  all_whole p f q g s h = rw (whole_of 4 w 3033 (kept p (not-false _ f)), whole_of 8 r 8065 (kept q (not-false _ g)), whole_of 12 t 1024 (kept s (not-false _ h)))
 
 pub same_network : {w w' : List ℕ} {r r' : List Float} {t t' : List Term} → w ≡ w' → r ≡ r' → t ≡ t' → network_of w r t ≡ network_of w' r' t'
 same_network p q s = rw (p, q, s)

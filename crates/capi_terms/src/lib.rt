@@ -1,4 +1,6 @@
 // `evaluate` over records as an extern "C" function on numbers and byte slices: the terms are one slice, twelve bytes each.
+#![tactic(auto)]
+
 ghost use Rattle.std.specs.Prelude.{◌≡◌, true, false, ◌&&◌, ◌+◌, ◌*◌, ◌≤◌, length, take};
 ghost use Rattle.sequence.specs.Lists.{made};
 ghost use Rattle.words.specs.Words.{doubles_of};

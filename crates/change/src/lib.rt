@@ -1,4 +1,6 @@
 // Site changes: one reading set, and the whole list for the network as it then stands.
+#![tactic(auto)]
+
 ghost use Rattle.std.specs.Prelude.{◌≡◌, [], true, ◌/◌, ◌%◌, ◌<◌, length, set};
 ghost use Rattle.network.specs.Layout.{Few, ReadingsLaid, size, place, readings_length};
 ghost use Rattle.network.specs.Numbers.{Wired, Termed};

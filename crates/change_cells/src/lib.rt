@@ -1,4 +1,6 @@
 // Which cells of the matrix a change of a reading may move.
+#![tactic(auto)]
+
 ghost use Rattle.std.specs.Prelude.{◌≡◌, ◌||◌, [], ◌∷◌, ◌++◌, ◌<◌, ◌≤◌};
 ghost use Rattle.network.specs.Layout.{size, wire};
 ghost use Rattle.network.specs.declared.Part.TheVariants.{BrFrom, BrTo};

@@ -1,4 +1,6 @@
 // A list of site changes, each on what the last one left.
+#![tactic(auto)]
+
 ghost use Rattle.std.specs.Prelude.{◌≡◌, [], ◌+◌, ◌*◌, ◌<◌, length, set};
 ghost use Rattle.kkt.specs.Slots.Rule.{first_place};
 ghost use Rattle.job_book.specs.Book.{given, words, step, ran, run_call, change_at};

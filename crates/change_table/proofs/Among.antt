@@ -1,6 +1,6 @@
 -- Whether a cell is in a list of cells: in one cell, and in two lists joined. Main results: `among_app`, `joined`. Assumes nothing.
 use mathlib.Core.Path.{◌≡◌, refl, sym, ap, ◌∙◌}
-use mathlib.Core.Bool.{Bool, true, false, ◌||◌, or_assoc, or_false}
+use mathlib.Core.Bool.{Bool, true, false, ◌||◌, or_assoc, or-false}
 use mathlib.Core.Logic.{◌⊎◌, inl, inr}
 use mathlib.Core.List.{List, [], ◌∷◌, ◌++◌}
 use lib.Dec.{eqb}
@@ -25,7 +25,7 @@ joined x us vs e p q = e ∙ rw (p, q) (sym (among_app x us vs))
 
 pub in_row : (x u : Cell) → x.0 ≡ u.0 → eqb x.1 u.1 ≡ among x (u ∷ [])
 unfolding among
-in_row x u e = rw (eq-eqb x.0 u.0 e) (sym (or_false (eqb x.1 u.1)))
+in_row x u e = rw (eq-eqb x.0 u.0 e) (sym (or-false (eqb x.1 u.1)))
 
 pub off_row : (x u : Cell) → (x.0 ≡ u.0 → ⊥) → eqb x.0 u.0 ≡ among x (u ∷ [])
 unfolding among

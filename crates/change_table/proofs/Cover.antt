@@ -54,7 +54,7 @@ module _ {A : Type 0} where
 
   listed : {P : A → Type 0} {l : List A} → Each P l → All P l
   listed {l = []} h = done
-  listed {l = x ∷ xs} h = h.0 & listed h.1
+  listed {l = x ∷ xs} h = h.0 & listed {l = xs} h.1
 
   when_all : {P : A → Type 0} (t : Bool) {l : List A} → (T t → All P l) → All P (when t l)
   unfolding when

@@ -1,4 +1,6 @@
 // Site changes: the reading that each kind sets, and the cells of the matrix that it names.
+#![tactic(auto)]
+
 ghost use Rattle.std.specs.Prelude.{◌≡◌, true, ◌<◌, ◌≤◌, get_or};
 ghost use Rattle.network.specs.declared.Field.TheVariants.{BaseMva};
 ghost use Rattle.change_table.specs.Table.{kinds, is_kind, field_of};

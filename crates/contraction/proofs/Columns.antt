@@ -3,7 +3,7 @@
 use mathlib.Core.Path.{◌≡◌, refl, sym, ◌∙◌}
 use mathlib.Core.List.{List, append_assoc}
 use Prim.Native.Nat.{ℕ, zero, suc, ◌+◌, ◌-◌, ◌*◌, ◌≤◌, ◌<◌}
-use native.Mathlib.Nat.{zero_mul, suc-mul, mul_comm, mul-le-mul_right, le_trans}
+use native.Mathlib.Nat.{zero-mul, suc-mul, mul_comm, mul-le-mul_right, le_trans}
 use native.Mathlib.Numerals.{add-one}
 use native.Mathlib.Omega.{arith}
 use lib.ListN.{length, take, drop, length-append, length-take, length-drop}
@@ -80,7 +80,7 @@ entered_run {S} {dim} h o l {from} {n} p q =
 
 columns_long : {A : Type 0} (f : ℕ → List A) (k n : ℕ) → ((o : ℕ) → length (f o) ≡ k) → length (each n f) ≡ n * k
 unfolding each
-columns_long f k zero h = sym (zero_mul k)
+columns_long f k zero h = sym (zero-mul k)
 columns_long f k (suc n) h = length-append (each n f) (f n) ∙ rw (columns_long f k n h, h n, suc-mul)
 
 pub row_long : (mode : Mode) (S : Selector) (dim columns : ℕ) (parameter solved : List Float) (o : ℕ) → length (contracted_row mode S dim columns parameter solved o) ≡ columns

@@ -4,7 +4,7 @@ use mathlib.Core.Path.{◌≡◌, refl, sym, ◌∙◌}
 use mathlib.Core.Bool.{Bool, true, false, not}
 use mathlib.Core.List.{List}
 use Prim.Native.Nat.{ℕ, zero, suc, ◌+◌, ◌<◌}
-use native.Mathlib.Nat.{not-suc-le-zero, zero_add, add_zero}
+use native.Mathlib.Nat.{not-suc-le-zero, zero-add, add-zero}
 use native.Mathlib.Omega.{arith}
 use lib.ListN.{length, get_or, set, length-set}
 use lib.Seq.{get_or-set_same, get_or-set_other}
@@ -39,7 +39,7 @@ not_false false e = refl
 pub skips : {rows : List ℕ} {values : List Float} {n : ℕ} (r k : ℕ) {parameter : List Float} → Gathers rows values n r parameter
     → every (λ i. not (ne (get_or parameter (r + i) nan) nought)) k ≡ true → Gathers rows values n (r + k) parameter
 unfolding every
-skips r zero g e = rw (add_zero r) g
+skips r zero g e = rw (add-zero r) g
 skips {rows} {values} {n} r (suc k) {parameter} g e =
     let p : r + suc k ≡ r + k + 1 = omega arith in
     rw p (skip (skips r k g (and_left _ _ e)) (not_false _ (and_right (every (λ i. not (ne (get_or parameter (r + i) nan) nought)) k) _ e)))
@@ -53,7 +53,7 @@ behind rows values solved n r v =
 -- the entry behind them is added
 last : (rows : List ℕ) (values solved : List Float) (n : ℕ) → term_sum rows values solved 0 (n + 1) ≡ add binary64 (term_sum rows values solved 0 n) (mul binary64 (get_or values n nan) (get_or solved (get_or rows n 0) nan))
 unfolding term_sum
-last rows values solved n = rw (turns_more, zero_add n)
+last rows values solved n = rw (turns_more, zero-add n)
 
 pub more : {rows : List ℕ} {values : List Float} {n r : ℕ} {parameter : List Float} → Gathers rows values n r parameter
     → n < length rows → n < length values → ne (get_or parameter r nan) nought ≡ true

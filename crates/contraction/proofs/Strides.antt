@@ -3,7 +3,7 @@
 use mathlib.Core.Path.{◌≡◌, refl, ◌∙◌}
 use mathlib.Core.List.{List}
 use Prim.Native.Nat.{ℕ, zero, suc, ◌+◌, ◌*◌, ◌≤◌, ◌<◌}
-use native.Mathlib.Nat.{zero_mul, suc-mul}
+use native.Mathlib.Nat.{zero-mul, suc-mul}
 use native.Mathlib.Numerals.{add-one}
 use native.Mathlib.Omega.{arith}
 use lib.ListN.{length, set}
@@ -56,7 +56,7 @@ module _ {A : Type 0} (w : ℕ → ℕ → A) (k : ℕ) where
 
   rows_run : (n : ℕ) (l : List A) → Runs (λ o. made (w o) k) 0 n (n * k) l (rows n k l)
   unfolding turns
-  rows_run zero l = rw zero_mul (no_run _ 0 l)
+  rows_run zero l = rw zero-mul (no_run _ 0 l)
   rows_run (suc n) l = rw (suc-mul, ← add-one) (run_front k (rows_run n l) (made_length (w n) k) (across_stored n k (rows n k l)).is)
 
   pub rows_front : (n : ℕ) (l : List A) → n * k ≤ length l → rows n k l ≡ front (each n (λ o. made (w o) k)) l

@@ -1,5 +1,7 @@
 // sens/mod.rs, `forward_adjoint` on both sides of the outside solve: the selection sheet, and the contraction
 // of the solved columns.
+#![tactic(auto)]
+
 ghost use Rattle.std.specs.Prelude.{◌≡◌, true, not, ◌+◌, ◌*◌, ◌≤◌, ◌<◌, length, get_or, set};
 ghost use Rattle.std.proofs.lemmas.List.Edits.{sets};
 ghost use Rattle.std.specs.Float.{nan};
@@ -148,7 +150,7 @@ fn contract_rows(
 }
 
 // A parameter column's entries: how many are gathered, and whether they stand for the whole column.
-#[derive(Drop)]
+#[derive(Clone, Copy)]
 struct Gathering {
     whole: bool,
     count: usize,

@@ -9,7 +9,7 @@ use lib.Dec.{T, eqb, ltb, leb}
 use lib.ListN.{length, take}
 use lib.Seq.{length-take-le}
 use lib.Ieee.{Float}
-use borrow.Author.Tests.{lt-ltb, le-ltb, ltb-false, eqb-true, not-true}
+use borrow.Author.Tests.{lt-ltb, le-ltb, ltb-false, eqb-true, not-true, not-false}
 use Rattle.sequence.specs.Lists.{front, made}
 use Rattle.sequence.specs.Answers.{Test, test, first_of, marked, short, Filled, filled, fills}
 use Rattle.sequence.proofs.Lists.{and_left, and_right, failed, held as kept, made_length, never}
@@ -209,7 +209,7 @@ module _ (N : Network) (ok : Bool) (own : List ℕ) (sizes : Bool) where
   unsized_beside r h = contrary _ _ (λ e. rw (and_left ok _ (and_left (ok && whole 8 own) _ e), and_left (sizes_hold N) _ (and_right (ok && whole 8 own) _ e))) (r.refused (not-true _ h))
 
   pub unsized_own : {most : ℕ} {r : Bool} → (sizes_hold N ≡ true → sizes ≡ true → length (doubles_of own) ≤ most) → r ≡ fits 8 own most → not r ≡ true → (ok && whole 8 own) && (sizes_hold N && sizes) ≡ false
-  unsized_own {most} small q h = contrary _ _ fit (failed q h)
+  unsized_own {most} small q h = contrary _ _ fit (failed q (not-true _ h))
     where
       fit : (ok && whole 8 own) && (sizes_hold N && sizes) ≡ true → fits 8 own most ≡ true
       fit e =
@@ -218,7 +218,7 @@ module _ (N : Network) (ok : Bool) (own : List ℕ) (sizes : Bool) where
           fits_of 8 own most (and_right ok _ (and_left (ok && whole 8 own) _ e)) (omega (arith, l, made_length (double_at own) (length own / 8)))
 
 pub wholly_own : {ok : Bool} (own : List ℕ) (most : ℕ) → ok ≡ true → {r : Bool} → r ≡ fits 8 own most → not r ≡ false → ok && whole 8 own ≡ true
-wholly_own own most o e h = rw (o, whole_of 8 own most (kept e h))
+wholly_own own most o e h = rw (o, whole_of 8 own most (kept e (not-false _ h)))
 
 pub told_own : {A : Type 0} (g : Bool → Network → List Float → A) {b : Bool} {M N : Network} {F F' : List Float} → b ≡ true → M ≡ N → F ≡ F' → g true M F ≡ g b N F'
 told_own g e q r = rw (e, q, r)
@@ -268,13 +268,13 @@ module _ (N : Network) (ok : Bool) (f pg : List ℕ) where
   unsized_with r h = unsized_network (r.refused (not-true _ h))
 
   pub unsized_flows : {r : Bool} → r ≡ fits 8 f 512 → not r ≡ true → whole_with ok f pg && sized_with N f pg ≡ false
-  unsized_flows e h = contrary _ _ flows_fit (failed e h)
+  unsized_flows e h = contrary _ _ flows_fit (failed e (not-true _ h))
 
   pub unsized_powers : {r : Bool} → r ≡ fits 8 pg 256 → not r ≡ true → whole_with ok f pg && sized_with N f pg ≡ false
-  unsized_powers e h = contrary _ _ powers_fit (failed e h)
+  unsized_powers e h = contrary _ _ powers_fit (failed e (not-true _ h))
 
   pub wholly : ok ≡ true → {r s : Bool} → r ≡ fits 8 f 512 → not r ≡ false → s ≡ fits 8 pg 256 → not s ≡ false → whole_with ok f pg ≡ true
-  wholly o e h d g = rw (o, whole_of 8 f 512 (kept e h), whole_of 8 pg 256 (kept d g))
+  wholly o e h d g = rw (o, whole_of 8 f 512 (kept e (not-false _ h)), whole_of 8 pg 256 (kept d (not-false _ g)))
 
 pub told_with : (g : Bool → Network → List Float → List Float → Out) {b : Bool} {M N : Network} {F F' P P' : List Float} → b ≡ true → M ≡ N → F ≡ F' → P ≡ P' → g true M F P ≡ g b N F' P'
 told_with g e q r s = rw (e, q, r, s)

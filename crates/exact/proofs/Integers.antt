@@ -73,16 +73,16 @@ integers = record {
       is_semiring = record {
         is_non_unital_semiring = record {
           is_non_unital_non_assoc_semiring = record {
-            is_add_comm_monoid = record { is_add_monoid = record { is_add_semigroup = sums; zero_add = +ℤ_idl; add_zero = +ℤ_idr }; add_comm = +ℤ_comm };
+            is_add_comm_monoid = record { is_add_monoid = record { is_add_semigroup = sums; zero-add = +ℤ_idl; add-zero = +ℤ_idr }; add_comm = +ℤ_comm };
             left_distrib = mul_add;
             right_distrib = add_mul;
-            zero_mul = zero-*ℤ;
-            mul_zero = *ℤ-zero;
+            zero-mul = zero-*ℤ;
+            mul-zero = *ℤ-zero;
           };
           mul_assoc = mul_assoc;
         };
-        one_mul = λ a. *ℤ_comm (pos 1) a ∙ mul_one a;
-        mul_one = mul_one;
+        one-mul = λ a. *ℤ_comm (pos 1) a ∙ mul_one a;
+        mul-one = mul_one;
       };
       neg-add_cancel = +ℤ_invl;
     };

@@ -39,16 +39,16 @@ module _ {R : Type 0} (𝓡 : CommRing R) where
   add_comm = distributive.is_add_comm_monoid.add_comm
 
   pub zero_add : (a : R) → 𝟘 + a ≡ a
-  zero_add = additive.zero_add
+  zero_add = additive.zero-add
 
   pub add_zero : (a : R) → a + 𝟘 ≡ a
-  add_zero = additive.add_zero
+  add_zero = additive.add-zero
 
   pub add_mul : (a b c : R) → (a + b) * c ≡ a * c + b * c
   add_mul = distributive.right_distrib
 
   pub zero_mul : (a : R) → 𝟘 * a ≡ 𝟘
-  zero_mul = distributive.zero_mul
+  zero_mul = distributive.zero-mul
 
   pub mul_assoc : (a b c : R) → (a * b) * c ≡ a * (b * c)
   mul_assoc = semiring.mul_assoc

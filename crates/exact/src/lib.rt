@@ -1,1 +1,2 @@
 // sens/mod.rs's `forward_adjoint` as definitions over any commutative ring: both directions give the same matrix.
+#![tactic(auto)]

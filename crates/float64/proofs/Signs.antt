@@ -2,7 +2,7 @@
 use mathlib.Core.Path.{◌≡◌, refl, sym, ap, ◌∙◌, subst}
 use mathlib.Core.Bool.{Bool, true, false, not, cond, ◌&&◌}
 use Prim.Native.Nat.{ℕ, zero, suc, ◌+◌, ◌-◌, ◌*◌, ◌/◌, ◌%◌, ◌^◌, ◌≤◌, ◌<◌}
-use native.Mathlib.Nat.{mul_one, one_mul, mul_assoc, mul_comm, mul_right_comm, zero_mul, lt_of_mul-lt-mul_right, mul-lt-mul_of_pos_right}
+use native.Mathlib.Nat.{mul-one, one-mul, mul_assoc, mul_comm, mul_right_comm, zero-mul, lt_of_mul-lt-mul_right, mul-lt-mul_of_pos_right}
 use native.Mathlib.Omega.{arith}
 use lib.IntN.{ℤ, pos, negsuc}
 use lib.Dec.{T, ltb, leb, eqb, ltb→lt, leb→le}
@@ -92,8 +92,8 @@ same_value f s m e n d p q h = sym (of_bits-to_bits f (fin s m e) p) ∙ ap (of_
 
 -- the exponent in units of the format's smallest value
 scale : (l : ℕ) (e : ℤ) → down e ≤ 2 ^ l → (j : ℕ) × (up e * 2 ^ l ≡ 2 ^ j * down e)
-scale l (pos a) h = (a + l, sym (pow-add 2 a l) ∙ sym (mul_one (2 ^ (a + l))))
-scale l (negsuc a) h = (l - suc a, one_mul (2 ^ l) ∙ ap (λ (x : ℕ). 2 ^ x) (split l (suc a) (back (suc a) l h)) ∙ pow-add 2 (l - suc a) (suc a))
+scale l (pos a) h = (a + l, sym (pow-add 2 a l) ∙ sym (mul-one (2 ^ (a + l))))
+scale l (negsuc a) h = (l - suc a, one-mul (2 ^ l) ∙ ap (λ (x : ℕ). 2 ^ x) (split l (suc a) (back (suc a) l h)) ∙ pow-add 2 (l - suc a) (suc a))
   where
     split : (l a : ℕ) → a ≤ l → l ≡ l - a + a
     split l a h = omega arith
@@ -124,7 +124,7 @@ back_value f s m e (fin t n d) p q v =
 pub round_back : (f : Format) (s : Bool) (m : ℕ) (e : ℤ) → T (fits f (fin s m e)) → round f s (m * up e) (down e) ≡ fin s m e
 unfolding fits
 round_back f s zero e p = back_value f s zero e (round f s (zero * up e) (down e)) p (round-fits f s _ _)
-    (round_exact f s (zero * up e) (down e) 0 0 (down_pos e) (pow_pos (prec f)) (pow_pos (low f + suc (emax f))) (ap (λ (x : ℕ). x * 2 ^ low f) (zero_mul (up e)) ∙ zero_mul (2 ^ low f) ∙ sym (zero_mul (down e))))
+    (round_exact f s (zero * up e) (down e) 0 0 (down_pos e) (pow_pos (prec f)) (pow_pos (low f + suc (emax f))) (ap (λ (x : ℕ). x * 2 ^ low f) (zero-mul (up e)) ∙ zero-mul (2 ^ low f) ∙ sym (zero-mul (down e))))
 round_back f s (suc m) e p =
     let a = eqb (suc m % 2) 1 in
     let b = ltb (suc m) (2 ^ prec f) in
@@ -148,8 +148,8 @@ mul_one_right nan h = refl
 mul_one_right (inf s) h = ap inf (plus_sign s)
 mul_one_right (fin s m e) h =
     ap (λ (b : Bool). round binary64 b (m * up e * (1 * 2 ^ 0)) (down e * 1)) (plus_sign s)
-    ∙ ap (λ (x : ℕ). round binary64 s x (down e * 1)) (mul_one (m * up e))
-    ∙ ap (λ (x : ℕ). round binary64 s (m * up e) x) (mul_one (down e))
+    ∙ ap (λ (x : ℕ). round binary64 s x (down e * 1)) (mul-one (m * up e))
+    ∙ ap (λ (x : ℕ). round binary64 s (m * up e) x) (mul-one (down e))
     ∙ round_back binary64 s m e h
 
 pub mul_less_one : (x : Float) → T (fits binary64 x) → mul binary64 x (fin true 1 (pos 0)) ≡ neg x

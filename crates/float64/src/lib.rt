@@ -1,4 +1,6 @@
 // Doubles that the papers name, and tests on single doubles.
+#![tactic(auto)]
+
 ghost use Rattle.std.specs.Prelude.{◌≡◌, T};
 ghost use Rattle.std.specs.Float.Ieee.Positive.{positive};
 ghost use Rattle.float64.specs.Values.{tolerance, raw_limit, sheet_limit, parameter_limit, base_low, base_high, within, in_range, max_zero};

@@ -1,25 +1,27 @@
 // The vocabulary of sens/interface.rs: what a sensitivity is taken of, what with respect to, and by which solve;
 // with the scale from per-unit to served units.
+#![tactic(auto)]
+
 pub mod axes;
 pub mod codes;
 pub mod scale;
 
 // Active or reactive power.
-#[derive(Drop)]
+#[derive(Clone, Copy)]
 pub enum Power {
     Active,
     Reactive,
 }
 
 // Which end of a branch a flow is measured at.
-#[derive(Drop)]
+#[derive(Clone, Copy)]
 pub enum End {
     From,
     To,
 }
 
 // How a voltage is represented: polar, or the W-space lift with |V|² and the two parts of Vi Vj*.
-#[derive(Drop)]
+#[derive(Clone, Copy)]
 pub enum VoltageKind {
     Magnitude,
     Angle,
@@ -29,35 +31,35 @@ pub enum VoltageKind {
 }
 
 // Which generation-cost coefficient.
-#[derive(Drop)]
+#[derive(Clone, Copy)]
 pub enum CostTerm {
     Quadratic,
     Linear,
 }
 
 // The real or the imaginary part of an admittance.
-#[derive(Drop)]
+#[derive(Clone, Copy)]
 pub enum GB {
     Conductance,
     Susceptance,
 }
 
 // A lower or an upper bound.
-#[derive(Drop)]
+#[derive(Clone, Copy)]
 pub enum Bound {
     Min,
     Max,
 }
 
 // A transformer control.
-#[derive(Drop)]
+#[derive(Clone, Copy)]
 pub enum TapKind {
     Ratio,
     PhaseShift,
 }
 
 // What a sensitivity is taken of.
-#[derive(Drop)]
+#[derive(Clone, Copy)]
 pub enum Operand {
     // Nodal-balance dual, per bus.
     Price(Power),
@@ -70,7 +72,7 @@ pub enum Operand {
 }
 
 // What a sensitivity is taken with respect to.
-#[derive(Drop)]
+#[derive(Clone, Copy)]
 pub enum Parameter {
     // Bus demand, per bus.
     Demand(Power),
@@ -95,7 +97,7 @@ pub enum Parameter {
 }
 
 // Which linear systems are solved: with the matrix, with its transpose, or whichever is smaller.
-#[derive(Drop)]
+#[derive(Clone, Copy)]
 pub enum Mode {
     Forward,
     Adjoint,
@@ -103,7 +105,7 @@ pub enum Mode {
 }
 
 // The element family that an operand or a parameter ranges over.
-#[derive(Drop)]
+#[derive(Clone, Copy)]
 pub enum Axis {
     Bus,
     Branch,
@@ -112,21 +114,21 @@ pub enum Axis {
 }
 
 // What a number says, where an operand is asked for.
-#[derive(Drop)]
+#[derive(Clone, Copy)]
 pub enum OperandCode {
     Known(Operand),
     Unknown,
 }
 
 // What a number says, where a parameter is asked for.
-#[derive(Drop)]
+#[derive(Clone, Copy)]
 pub enum ParameterCode {
     Known(Parameter),
     Unknown,
 }
 
 // What a number says, where a mode is asked for.
-#[derive(Drop)]
+#[derive(Clone, Copy)]
 pub enum ModeCode {
     Known(Mode),
     Unknown,

@@ -94,7 +94,7 @@ module _ (G : Given) (rule : Rule) {W : Words} {h : Change} (p : Passed G rule W
   still_read =
       let fields : Bool = every (field_holds (counts_in G) W.readings) 21 in
       let terms : Bool = all_within raw_limit G.coefficients in
-      let both : fields && terms ≡ true = (network_accepted G rule p).readings_hold in
+      let both : fields && terms ≡ true = (network_accepted G rule p).readings_pass in
       rw (still_within W.readings (place_of G h) (value_of h) (place_later (counts_in G) (kind_of h) (index_of h) p.kind) place_below p.value (counts_in G) (network_accepted G rule p).read (and_left fields terms both), and_right fields terms both)
 
   -- so the network with the change made passes every test that the network passed

@@ -9,7 +9,7 @@ use native.Mathlib.Decide.{ℕ_discrete}
 use lib.ListN.{length}
 use lib.Dec.{eqb}
 use lib.Ieee.{Float}
-use borrow.Author.Tests.{eqb-true, ltb-true, not_false, ne_eqb, eqb-false}
+use borrow.Author.Tests.{eqb-true, ltb-true, not-false, ne_eqb, eqb-false}
 use Rattle.float64.specs.Values.{within, raw_limit}
 use Rattle.sequence.specs.Answers.{Test, test, first_of}
 use Rattle.sequence.specs.Sheets.{Triplet, short_list}
@@ -79,12 +79,12 @@ module _ (G : Given) (rule : Rule) where
         let t6 = first_failed _ _ _ t5.1 in
         let t7 = first_failed _ _ _ t6.1 in
         record {
-          sized = not_false _ t1.0;
-          wiring = not_false _ t2.0;
-          read = not_false _ t3.0;
-          value = not_false _ t4.0;
-          kind = not_false _ t5.0;
-          index = ltb-true _ _ (not_false _ t6.0);
+          sized = not-false _ t1.0;
+          wiring = not-false _ t2.0;
+          read = not-false _ t3.0;
+          value = not-false _ t4.0;
+          kind = not-false _ t5.0;
+          index = ltb-true _ _ (not-false _ t6.0);
           fits = t7.0;
         }
 

@@ -1,4 +1,6 @@
 // sens/dc.rs, `kkt_triplets`: entries of the KKT matrix by value, and up to three of them into the sheets.
+#![tactic(auto)]
+
 ghost use Rattle.std.specs.Prelude.{◌≡◌, ◌++◌, ◌+◌, ◌<◌, ◌≤◌};
 ghost use Rattle.sequence.specs.Sheets.{emit, held, Puts, Room};
 ghost use Rattle.kkt_index.specs.Index.{Narrow, start_in};
@@ -9,7 +11,7 @@ use kkt_index::{Block, KktIdx};
 use sequence::{Item, put};
 
 // Up to three items of a column.
-#[derive(Drop)]
+#[derive(Clone, Copy)]
 pub struct Three {
     pub first: Item,
     pub second: Item,
@@ -17,7 +19,7 @@ pub struct Three {
 }
 
 // How a block's columns are put: by which loop.
-#[derive(Drop)]
+#[derive(Clone, Copy)]
 pub enum Work {
     Angles,
     Dispatch,
@@ -29,7 +31,7 @@ pub enum Work {
 }
 
 // Which of the three loops over the generators.
-#[derive(Drop)]
+#[derive(Clone, Copy)]
 pub enum Use {
     InDispatch,
     InEpigraph,
@@ -37,7 +39,7 @@ pub enum Use {
 }
 
 // On which side a linear row binds: at its upper limit, at its lower, or at both as one.
-#[derive(Drop)]
+#[derive(Clone, Copy)]
 pub enum Side {
     Above,
     Below,

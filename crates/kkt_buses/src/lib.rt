@@ -1,4 +1,6 @@
 // The columns of the buses: of their angles, and of their balances.
+#![tactic(auto)]
+
 ghost use Rattle.network.specs.declared.Part.TheVariants.{References};
 ghost use Rattle.std.specs.Prelude.{true, ◌+◌, ◌<◌, ◌≤◌, ◌++◌, length};
 ghost use Rattle.sequence.specs.Lists.{each};

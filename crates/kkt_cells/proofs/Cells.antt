@@ -5,7 +5,7 @@ use mathlib.Core.Bool.{Bool, true, false, cond, not, ◌&&◌, ◌||◌, or-true
 use mathlib.Core.List.{List, [], ◌∷◌, ◌++◌, append-nil}
 use mathlib.Core.Logic.{⊎_elim}
 use Prim.Native.Nat.{ℕ, zero, suc, ◌+◌, ◌-◌, ◌*◌, ◌≤◌, ◌<◌}
-use native.Mathlib.Nat.{eq-or-lt_of_le, not-suc-le-zero, le_of_suc-le-suc, zero_add, zero_mul}
+use native.Mathlib.Nat.{eq-or-lt_of_le, not-suc-le-zero, le_of_suc-le-suc, zero-add, zero-mul}
 use native.Mathlib.Omega.{arith}
 use native.Mathlib.Decide.{dec_lt}
 use lib.ListN.{length, get_or, set, length-append, length-map, get_or-append, get_or-map}
@@ -68,7 +68,7 @@ module _ {A : Type 0} where
 module _ (c : Counts) (w : List ℕ) (r : List Float) where
   pub cells_are : (j : ℕ) {acc : List Float} {hit : List ℕ} → RowHeld c w r j acc hit → span_of false acc 0 j 0 c.buses ≡ cells_of c w r j
   unfolding span_of cells_of
-  cells_are j h = each_same c.buses _ _ (λ i l. rw (zero_add, zero_add, h.sums i l))
+  cells_are j h = each_same c.buses _ _ (λ i l. rw (zero-add, zero-add, h.sums i l))
 
   -- a sum is the entry of its column, at whatever sheet
   pub entry_is : (S : Entry → ℕ → Float) (j i : ℕ) → susceptance c w r j i ≡ eval (reading c r) S (balance c w i j)
@@ -199,7 +199,7 @@ neg_zero : (v : Float) → eq (neg v) nought ≡ eq v nought
 unfolding eq neg of_bits
 neg_zero nan = refl
 neg_zero (inf s) = refl
-neg_zero (fin s m e) = alike s (m * up e * down (pos 0)) (0 * up (pos 0) * down e) (rw zero_mul)
+neg_zero (fin s m e) = alike s (m * up e * down (pos 0)) (0 * up (pos 0) * down e) (rw zero-mul)
 
 taken_zero : (less : Bool) (v : Float) → eq (taken less v) nought ≡ eq v nought
 taken_zero true v = neg_zero v

@@ -1,4 +1,6 @@
 // The susceptance sums of every bus, made once and kept by bus, and a bus's as entries of a column.
+#![tactic(auto)]
+
 ghost use Rattle.std.specs.Prelude.{◌≡◌, ◌+◌, ◌*◌, ◌<◌, ◌≤◌, length};
 ghost use Rattle.sequence.specs.Sheets.{held, Puts, Room};
 ghost use Rattle.network.specs.Layout.{ReadingsLaid, reading};

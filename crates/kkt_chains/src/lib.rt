@@ -1,4 +1,6 @@
 // Entries of a bus by its chains: its branches, its generators and its first place among the references.
+#![tactic(auto)]
+
 ghost use Rattle.std.specs.Prelude.{◌≡◌, ℕ, ◌+◌, ◌*◌, ◌/◌, ◌<◌, ◌≤◌, [], ◌∷◌, ◌++◌, length};
 ghost use Rattle.network.specs.declared.Part.TheVariants.{GenBus, References};
 ghost use Rattle.sequence.specs.Lists.{each};

@@ -1,4 +1,6 @@
 // Columns of the generators, of their epigraphs and of their segments' duals.
+#![tactic(auto)]
+
 ghost use Rattle.std.specs.Prelude.{◌≡◌, ◌+◌, ◌*◌, ◌<◌, ◌≤◌};
 ghost use Rattle.sequence.specs.Lists.{each};
 ghost use Rattle.sequence.specs.Sheets.{held, Puts, Room};

@@ -37,7 +37,7 @@ module _ {c : Counts} {p l : ℕ} {x : KktIdx} (i : Indexed c p l x) where
   narrow few h g MuLb = omega (arith, i.mu_lb_start, few, h, g)
   narrow few h g MuUb = omega (arith, i.mu_ub_start, few, h, g)
   narrow few h g Segments = omega (arith, i.segments_start, few, h, g)
-  narrow few h g Linear = omega (arith, i.linear_start, few, h, g)
+  narrow few h g Linear = omega (arith, i.linear_block_start, few, h, g)
   narrow few h g NuBal = omega (arith, i.nu_bal_start, few, h, g)
   narrow few h g NuFlow = omega (arith, i.nu_flow_start, few, h, g)
   narrow few h g Eta = omega (arith, i.eta_start, few, h, g)
@@ -57,7 +57,7 @@ module _ {c : Counts} {p l : ℕ} {x : KktIdx} (i : Indexed c p l x) where
   starts MuLb = i.mu_lb_start
   starts MuUb = i.mu_ub_start
   starts Segments = i.segments_start
-  starts Linear = i.linear_start
+  starts Linear = i.linear_block_start
   starts NuBal = i.nu_bal_start
   starts NuFlow = i.nu_flow_start
   starts Eta = i.eta_start

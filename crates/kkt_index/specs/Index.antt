@@ -139,7 +139,7 @@ pub record Indexed (c : Counts) (p l : ℕ) (x : KktIdx) : Type 0 where
   pub mu_lb_start : x.mu_lb ≡ block_start c p l MuLb
   pub mu_ub_start : x.mu_ub ≡ block_start c p l MuUb
   pub segments_start : x.segments ≡ block_start c p l Segments
-  pub linear_start_lem : x.linear ≡ block_start c p l Linear
+  pub linear_block_start : x.linear ≡ block_start c p l Linear
   pub nu_bal_start : x.nu_bal ≡ block_start c p l NuBal
   pub nu_flow_start : x.nu_flow ≡ block_start c p l NuFlow
   pub eta_start : x.eta ≡ block_start c p l Eta

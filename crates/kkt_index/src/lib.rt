@@ -1,4 +1,6 @@
 // sens/dc.rs, `KktIdx`: where the rows and columns of the KKT matrix stand.
+#![tactic(auto)]
+
 ghost use Rattle.std.specs.Prelude.{◌≡◌, ◌*◌, ◌≤◌};
 ghost use Rattle.float64.specs.Values.{tolerance};
 ghost use Rattle.network.specs.Layout.{Few, WiringLaid, ReadingsLaid};
@@ -9,7 +11,7 @@ use model::rows::row_limits;
 use network::Counts;
 
 // The blocks of the matrix's rows and columns, in order.
-#[derive(Drop)]
+#[derive(Clone, Copy)]
 pub enum Block {
     Va,
     Pg,
@@ -33,7 +35,7 @@ pub enum Block {
 
 // Where each block starts, how many rows and columns there are, and the two counts that the wiring
 // does not state: piecewise generators, and rows of the linear block.
-#[derive(Drop)]
+#[derive(Clone, Copy)]
 pub struct KktIdx {
     pub va: usize,
     pub pg: usize,

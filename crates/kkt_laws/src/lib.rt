@@ -1,4 +1,6 @@
 // How many triplets the KKT list has at most.
+#![tactic(auto)]
+
 ghost use Rattle.std.specs.Prelude.{◌≡◌, ◌≤◌};
 ghost use Rattle.network.specs.Layout.{Few};
 ghost use Rattle.kkt.specs.Matrix.{most};

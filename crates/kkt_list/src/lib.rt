@@ -1,4 +1,6 @@
 // The whole list, block by block in the Rust's order of emission.
+#![tactic(auto)]
+
 ghost use Rattle.std.specs.Prelude.{◌≡◌, ◌+◌, ◌*◌, ◌<◌, ◌≤◌, length};
 ghost use Rattle.sequence.specs.Lists.{each};
 ghost use Rattle.sequence.specs.Sheets.{held, Puts, Room};
@@ -200,7 +202,7 @@ fn put_blocks(
     requires kept { Kept c wiring.now readings.now starts.now buses.now sums.now }
     requires termed { Termed c wiring.now term_index.now term_coefficient.now }
     requires room { Room limit (held rows cols values 0) }
-    ensures* fact { λ k. ⌜ Puts limit (emitted (start_in x) (reading c readings.now) (solved c x.pieces sheet.now) (each (length emission) (λ k. block_slots (site_of first_place c wiring.now readings.now term_index.now term_coefficient.now) (emission_at k)))) (held rows.entry cols.entry values.entry 0) (held rows.exit cols.exit values.exit k) ⌝ }
+    ensures puts { Puts limit (emitted (start_in x) (reading c readings.now) (solved c x.pieces sheet.now) (each (length emission) (λ k. block_slots (site_of first_place c wiring.now readings.now term_index.now term_coefficient.now) (emission_at k)))) (held rows.entry cols.entry values.entry 0) (held rows.exit cols.exit values.exit result) }
     ensures most { result ≤ 0x1b0_0000 }
 {
     let mut at = 0;

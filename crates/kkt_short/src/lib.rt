@@ -1,4 +1,6 @@
 // Columns of at most three entries: those of branches, of buses' sheds and of references.
+#![tactic(auto)]
+
 ghost use Rattle.std.specs.Prelude.{◌≡◌, ◌+◌, ◌<◌, ◌≤◌, cond};
 ghost use Rattle.sequence.specs.Lists.{each};
 ghost use Rattle.sequence.specs.Sheets.{held, Puts, Room};

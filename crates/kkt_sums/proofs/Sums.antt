@@ -4,7 +4,7 @@ use mathlib.Core.Path.{◌≡◌, refl, sym, ap, ◌∙◌}
 use mathlib.Core.Bool.{Bool, true, false, cond, not, ◌&&◌, ◌||◌, and-false}
 use mathlib.Core.List.{List, []}
 use Prim.Native.Nat.{ℕ, zero, suc, ◌+◌, ◌-◌, ◌*◌, ◌/◌, ◌≤◌, ◌<◌, min}
-use native.Mathlib.Nat.{eq-or-lt_of_le, not-suc-le-zero, le_of_suc-le-suc, zero_add}
+use native.Mathlib.Nat.{eq-or-lt_of_le, not-suc-le-zero, le_of_suc-le-suc, zero-add}
 use native.Mathlib.Omega.{arith}
 use mathlib.Core.Logic.{⊎_elim}
 use lib.ListN.{get_or}
@@ -161,4 +161,4 @@ pub blocks_done : {limit : ℕ} {S₀ S₁ : Sheets} (less : Bool) (acc : List F
     → Puts limit (each m (λ i. emit (sum_item less acc from col i))) S₀ S₁ → Puts limit (span_of less acc from col 0 n) S₀ S₁
 unfolding span_of
 blocks_done less acc from col {m} {n} e p =
-    rw (each_same n (λ i. emit (sum_item less acc from col (0 + i))) (λ i. emit (sum_item less acc from col i)) (λ i l. rw zero_add)) (rw e at p)
+    rw (each_same n (λ i. emit (sum_item less acc from col (0 + i))) (λ i. emit (sum_item less acc from col i)) (λ i l. rw zero-add)) (rw e at p)

@@ -1,4 +1,6 @@
 // The network model: model/dc.rs's quantities of an accepted network.
+#![tactic(auto)]
+
 pub mod cost;
 pub mod dc;
 pub mod rows;
@@ -6,7 +8,7 @@ pub mod terms;
 pub mod withdrawal;
 
 // A linear row's limits, once read.
-#[derive(Drop)]
+#[derive(Clone, Copy)]
 pub enum RowLimits {
     None,
     Upper(f64),
@@ -16,7 +18,7 @@ pub enum RowLimits {
 }
 
 // Which limits a linear row has, as numbers: 0, or why there is no answer; and the row's kind.
-#[derive(Drop)]
+#[derive(Clone, Copy)]
 pub struct RowKind {
     pub number: u32,
     pub kind: u32,

@@ -191,7 +191,7 @@ accepted N s w r =
         flow_terms = wired_flow c N.wiring N.indexes w;
         generation_terms = wired_generation c N.wiring N.indexes w;
       };
-      readings_hold_lem = r;
+      readings_pass = r;
     }
 
 -- the number that the tests give, and the acceptance that none says

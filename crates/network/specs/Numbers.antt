@@ -139,4 +139,4 @@ pub record Accepted (N : Network) (c : Counts) : Type 0 where
   pub wired : Wired c N.wiring
   pub read : ReadingsLaid c N.readings
   pub termed : Termed c N.wiring N.indexes N.coefficients
-  pub readings_hold_lem : readings_hold c N ≡ true
+  pub readings_pass : readings_hold c N ≡ true

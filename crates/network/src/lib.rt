@@ -1,9 +1,11 @@
 // A site network as lent slices: layouts by name, and numbers 1 to 3.
+#![tactic(auto)]
+
 pub mod check;
 pub mod layout;
 
 // n, m, k, R, S, q, T.
-#[derive(Drop)]
+#[derive(Clone, Copy)]
 pub struct Counts {
     pub buses: usize,
     pub branches: usize,
@@ -15,7 +17,7 @@ pub struct Counts {
 }
 
 // The wiring's parts, in the paper's order.
-#[derive(Drop)]
+#[derive(Clone, Copy)]
 pub enum Part {
     BrFrom,
     BrTo,
@@ -31,7 +33,7 @@ pub enum Part {
 }
 
 // The readings, in the paper's order.
-#[derive(Drop)]
+#[derive(Clone, Copy)]
 pub enum Field {
     BaseMva,
     Susceptance,

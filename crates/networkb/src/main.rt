@@ -1,6 +1,9 @@
 // Document 01's network B: prints its number, the fixed withdrawal of each bus, the generator's cost
 // at power 1, and its susceptance list, each double by its bits.
-use libc::STDOUT_FILENO;
+#![tactic(auto)]
+
+// Standard output, as every process is given it.
+const STDOUT_FILENO: i32 = 1;
 
 fn main() {
     let wiring = [2u32, 1, 1, 1, 0, 0, 0, 0, 1, 0, 1, 0, 0, 0, 1, 1, 1];

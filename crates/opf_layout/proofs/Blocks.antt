@@ -183,9 +183,9 @@ limits_start c a = omega arith
 abbrev pub limit_rows : Counts → Active → ℕ
 limit_rows c a = a.lines + a.lines + (a.generators + a.generators) + (a.sheds + a.sheds) + (a.phases + a.phases) + c.segments
 
-pub linear_start_lem : (c : Counts) (a : Active) → row_start c a LinearEqual ≡ row_start c a LineUb + limit_rows c a
+pub linear_block_start : (c : Counts) (a : Active) → row_start c a LinearEqual ≡ row_start c a LineUb + limit_rows c a
 unfolding row_start
-linear_start_lem c a = omega arith
+linear_block_start c a = omega arith
 
 pub inequalities_start : (c : Counts) (a : Active) → row_start c a LinearLimit ≡ row_start c a LinearEqual + a.equalities
 unfolding row_start
@@ -207,7 +207,7 @@ also_total n rest = go (eqb n 0) (eqb→eq n 0)
 pub cones_all : (c : Counts) (a : Active) → total (cones c a) ≡ ncon c a
 unfolding cones
 cones_all c a =
-    omega (arith, linear_start_lem c a, inequalities_start c a, rows_end c a, also_total a.equalities (also_if a.inequalities []), also_total a.inequalities [])
+    omega (arith, linear_block_start c a, inequalities_start c a, rows_end c a, also_total a.equalities (also_if a.inequalities []), also_total a.inequalities [])
 
 -- row i of the program: in this cone, at this place; `cones_apart` says that in no other
 pub record ConePlace (c : Counts) (a : Active) (i : ℕ) : Type 0 where

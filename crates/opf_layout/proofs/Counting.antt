@@ -60,7 +60,7 @@ rows_of c a x p ShedUb = p.shed_ub_start
 rows_of c a x p ShedLb = p.shed_lb_start
 rows_of c a x p PhaseUb = p.phase_ub_start
 rows_of c a x p PhaseLb = p.phase_lb_start
-rows_of c a x p Segment = p.segment_start
+rows_of c a x p Segment = p.segment_block_start
 rows_of c a x p LinearEqual = p.linear_equal_start
 rows_of c a x p LinearLimit = p.linear_limit_start
 

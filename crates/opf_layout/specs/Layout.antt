@@ -217,7 +217,7 @@ pub record Placed (c : Counts) (a : Active) (x : OpfLayout) : Type 0 where
   pub shed_lb_start : x.shed_lb ≡ row_start c a ShedLb
   pub phase_ub_start : x.phase_ub ≡ row_start c a PhaseUb
   pub phase_lb_start : x.phase_lb ≡ row_start c a PhaseLb
-  pub segment_start_lem : x.segment ≡ row_start c a Segment
+  pub segment_block_start : x.segment ≡ row_start c a Segment
   pub linear_equal_start : x.linear_equal ≡ row_start c a LinearEqual
   pub linear_limit_start : x.linear_limit ≡ row_start c a LinearLimit
   pub ncon_is : x.ncon ≡ ncon c a

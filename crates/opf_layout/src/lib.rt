@@ -1,4 +1,6 @@
 // problem/dc.rs, `OpfLayout`: where the columns and rows of the program stand.
+#![tactic(auto)]
+
 ghost use Rattle.std.specs.Prelude.{◌≡◌, cond, ◌*◌, ◌≤◌, ◌<◌};
 ghost use Rattle.network.specs.Layout.{WiringLaid, ReadingsLaid, part_size};
 ghost use Rattle.opf_layout.specs.Layout.{active_rank, flagged, sheds, equalities, inequalities, equality_rank, inequality_rank, active_of, Bounded, Placed, Narrow, column_in, row_in};
@@ -11,7 +13,7 @@ use network::{Counts, Part};
 use solution::piece_count;
 
 // The columns of the program, in order.
-#[derive(Drop)]
+#[derive(Clone, Copy)]
 pub enum OpfColumn {
     Va,
     Pg,
@@ -21,7 +23,7 @@ pub enum OpfColumn {
 }
 
 // Its rows, in order.
-#[derive(Drop)]
+#[derive(Clone, Copy)]
 pub enum OpfRow {
     Balance,
     FlowRow,
@@ -40,7 +42,7 @@ pub enum OpfRow {
 }
 
 // How many limits and variables are active, beside what the wiring counts.
-#[derive(Drop)]
+#[derive(Clone, Copy)]
 pub struct Active {
     pub lines: usize,
     pub generators: usize,
@@ -53,7 +55,7 @@ pub struct Active {
 
 // Where each block of columns and of rows starts, how many columns and rows there are, the first two
 // cones, and the counts that the wiring does not state.
-#[derive(Drop)]
+#[derive(Clone, Copy)]
 pub struct OpfLayout {
     pub va: usize,
     pub pg: usize,

@@ -1,4 +1,6 @@
 // problem/dc.rs, `assemble_opf`: A's and P's triplets into three lent sheets, in the Rust's order of writing.
+#![tactic(auto)]
+
 ghost use Rattle.std.specs.Prelude.{◌≡◌, ◌+◌, ◌<◌, ◌≤◌};
 ghost use Rattle.sequence.specs.Lists.{each};
 ghost use Rattle.sequence.specs.Sheets.{held, Puts, Room};
@@ -21,7 +23,7 @@ use program_builder::quad;
 use solution::next_piece;
 
 // The groups of A's entries, in the order of writing.
-#[derive(Drop)]
+#[derive(Clone, Copy)]
 pub enum Group {
     ShedEntries,
     GeneratorEntries,
@@ -34,7 +36,7 @@ pub enum Group {
 }
 
 // The counts that a group's loop carries.
-#[derive(Drop)]
+#[derive(Clone, Copy)]
 pub struct Ranks {
     pub first: usize,
     pub second: usize,

@@ -1,4 +1,6 @@
 // problem/dc.rs, `assemble_opf` as a public call: the program in standard form into lent sheets.
+#![tactic(auto)]
+
 ghost use Rattle.std.specs.Prelude.{◌≡◌, ◌≤◌, length, ltb};
 ghost use Rattle.sequence.specs.Lists.{front};
 ghost use Rattle.sequence.specs.Sheets.{laid, lays, room};
@@ -18,7 +20,7 @@ use opf_sides::{cone_count, put_b, put_cones, put_q};
 use sequence::room;
 
 // 0, or the number of the refusal, and how many triplets of A and of P were written.
-#[derive(Drop)]
+#[derive(Clone, Copy)]
 pub struct Assembly {
     pub number: u32,
     pub a_count: usize,
@@ -26,7 +28,7 @@ pub struct Assembly {
 }
 
 // How many doubles or triplets each lent sheet holds.
-#[derive(Drop)]
+#[derive(Clone, Copy)]
 pub struct Rooms {
     pub p: usize,
     pub a: usize,

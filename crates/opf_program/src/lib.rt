@@ -1,4 +1,6 @@
 // problem/dc.rs, `assemble_opf`: entries of A into three lent sheets, and those of a branch, in the Rust's order of writing.
+#![tactic(auto)]
+
 ghost use Rattle.std.specs.Prelude.{◌≡◌, true, ◌++◌, ◌+◌, ◌<◌, ◌≤◌};
 ghost use Rattle.std.specs.Float.Ieee.{neg};
 ghost use Rattle.float64.specs.Values.{one};
@@ -20,7 +22,7 @@ use opf_layout::{OpfColumn, OpfLayout, OpfRow};
 use program_builder::a;
 
 // An entry of A by value: a row and a column by block and index, and its value.
-#[derive(Drop)]
+#[derive(Clone, Copy)]
 pub struct Cell {
     pub row: OpfRow,
     pub i: usize,

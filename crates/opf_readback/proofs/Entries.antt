@@ -161,7 +161,7 @@ module _ {c : Counts} {w : List ℕ} {r x z : List Float} {lay : OpfLayout} (h :
 
       pub of_segment_dual : e ≡ SegmentDual → new ≡ sets old at (made (block_at z lay.segment) c.segments) → new ≡ sets old at (made (read_at c w r ti tc x z raw e) (size c p e))
       unfolding read_at
-      of_segment_dual q g = rw q (g ∙ ap (λ (s : ℕ). sets old at (made (block_at z s) c.segments)) h.placed.segment_start)
+      of_segment_dual q g = rw q (g ∙ ap (λ (s : ℕ). sets old at (made (block_at z s) c.segments)) h.placed.segment_block_start)
 
       pub of_linear_dual : e ≡ LinearDual
           → new ≡ sets old at (made (λ q. signed_of z (lay.linear_equal + equality_rank c w r q) (lay.linear_limit + inequality_rank c w r q) (row_limits c w r q)) c.rows) → new ≡ sets old at (made (read_at c w r ti tc x z raw e) (size c p e))

@@ -1,4 +1,6 @@
 // The solution sheet that a solver's raw vectors give: problem/dc.rs, `read_dc_solution`.
+#![tactic(auto)]
+
 ghost use Rattle.std.specs.Prelude.{◌≡◌, true, cond, ◌+◌, ◌≤◌, ◌<◌, length, get_or};
 ghost use Rattle.std.proofs.lemmas.List.Edits.{sets};
 ghost use Rattle.std.specs.Float.{nan, binary64};

@@ -1,4 +1,6 @@
 // problem/dc.rs, `assemble_opf`: the entries of a generator's segments and of a linear row, in the Rust's order of writing.
+#![tactic(auto)]
+
 ghost use Rattle.std.specs.Prelude.{◌≡◌, true, ◌++◌, ℕ, ◌+◌, ◌*◌, ◌<◌, ◌≤◌, length, get_or};
 ghost use Rattle.std.specs.Float.Ieee.{neg};
 ghost use Rattle.float64.specs.Values.{one};

@@ -1,4 +1,6 @@
 // problem/dc.rs, `assemble_opf`: the objective's linear part q, the right sides b and the cones' sizes.
+#![tactic(auto)]
+
 ghost use Rattle.std.specs.Prelude.{◌≡◌, [], ◌∷◌, ◌+◌, ◌<◌, ◌≤◌, length, get_or};
 ghost use Rattle.sequence.specs.Lists.{front, when};
 ghost use Rattle.network.specs.Layout.{WiringLaid, ReadingsLaid, part_size};
@@ -18,7 +20,7 @@ use opf_layout::{OpfColumn, OpfLayout, OpfRow, one_if, sheds_at};
 use program_builder::{lin, rhs};
 
 // The right sides of one element: none where its limit is inactive, two for a linear row with two limits.
-#[derive(Drop)]
+#[derive(Clone, Copy)]
 pub enum Sides {
     Nothing,
     One(f64),
@@ -245,7 +247,7 @@ pub fn put_b(wiring: &[u32], readings: &[f64], c: Counts, b: &mut [f64])
 }
 
 // What `lin` adds in an element's column, where it has one.
-#[derive(Drop)]
+#[derive(Clone, Copy)]
 pub struct Linear {
     pub on: bool,
     pub value: f64,

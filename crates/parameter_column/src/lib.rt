@@ -1,4 +1,6 @@
 // sens/dc.rs, `parameter_jacobian`: one column, the partial of the KKT residual in one parameter.
+#![tactic(auto)]
+
 ghost use Rattle.std.specs.Prelude.{◌≡◌, List, [], ◌∷◌, ℕ, ◌+◌, ◌<◌, ◌≤◌, Float};
 ghost use Rattle.network.specs.Layout.{WiringLaid, ReadingsLaid, reading};
 ghost use Rattle.network.specs.Numbers.{Wired, Termed};
@@ -21,7 +23,7 @@ use snapping::{
 use solution::{Entry, solved_at};
 
 // What is done with a word of a column.
-#[derive(Drop)]
+#[derive(Clone, Copy)]
 pub enum How {
     Put,
     Plus,
@@ -29,7 +31,7 @@ pub enum How {
 }
 
 // The parameters that are served.
-#[derive(Drop)]
+#[derive(Clone, Copy)]
 pub enum Served {
     Demand,
     CostQuadratic,

@@ -1,4 +1,6 @@
 // sens/dc.rs, `parameter_jacobian`: columns one after the other, each through the part that begins at its place.
+#![tactic(auto)]
+
 ghost use Rattle.std.specs.Prelude.{◌≡◌, ℕ, ◌*◌, ◌<◌, ◌≤◌, length, get_or};
 ghost use Rattle.float64.specs.Values.{nought};
 ghost use Rattle.sequence.specs.Lists.{made, front};

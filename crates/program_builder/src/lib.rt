@@ -1,5 +1,7 @@
 // problem/mod.rs, `ProgramBuilder` without CSC. What it keeps is lent: P's and A's triplets in three
 // sheets each, in the order written and not merged, q and b in one each.
+#![tactic(auto)]
+
 ghost use Rattle.std.specs.Prelude.{◌≡◌, ◌+◌, ◌<◌, ◌≤◌, length};
 ghost use Rattle.sequence.specs.Sheets.{held, Puts, Room};
 ghost use Rattle.program_builder.specs.Builder.{kept, added, replaced};

@@ -1,4 +1,6 @@
 // Numbers 1 to 3 of a network with a solver's raw vectors.
+#![tactic(auto)]
+
 ghost use Rattle.std.specs.Prelude.{◌≡◌, true, ℕ};
 ghost use Rattle.sequence.specs.Answers.{first_of};
 ghost use Rattle.network.specs.Layout.{counts_of};

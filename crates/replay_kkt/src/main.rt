@@ -1,12 +1,17 @@
 // Replays recorded answers of the Rust original: each case on standard input is a network with its
 // solution sheet and the triplets that the original gave for it. Prints how many cases there were,
 // and how many of them the matrix call answers otherwise.
+#![tactic(auto)]
+
 ghost use Rattle.std.specs.Prelude.{◌+◌, ◌≤◌, ◌<◌, length};
 
-use libc::{STDIN_FILENO, STDOUT_FILENO};
+// Standard input and output, as every process is given them.
+const STDIN_FILENO: i32 = 0;
+
+const STDOUT_FILENO: i32 = 1;
 
 // Where a case ends, and whether it was answered as recorded; 0 where no whole case is left.
-#[derive(Drop)]
+#[derive(Clone, Copy)]
 struct Replayed {
     end: usize,
     same: bool,

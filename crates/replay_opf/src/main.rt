@@ -1,19 +1,24 @@
 // Replays recorded answers of the Rust original: each case on standard input is a network with a solver's
 // vectors, the program that the original assembled for it, and the solution sheet and marginal values that
 // it read from the vectors. Prints how many cases there were, and how many are answered otherwise.
+#![tactic(auto)]
+
 ghost use Rattle.std.specs.Prelude.{◌+◌, ◌≤◌, ◌<◌, ◌≡◌, length};
 
-use libc::{STDIN_FILENO, STDOUT_FILENO};
+// Standard input and output, as every process is given them.
+const STDIN_FILENO: i32 = 0;
+
+const STDOUT_FILENO: i32 = 1;
 
 // Where a case ends, and whether it was answered as recorded; 0 where no whole case is left.
-#[derive(Drop)]
+#[derive(Clone, Copy)]
 struct Replayed {
     end: usize,
     same: bool,
 }
 
 // How far the recorded answers were met, and whether all were the same so far.
-#[derive(Drop)]
+#[derive(Clone, Copy)]
 struct Cursor {
     same: bool,
     at: usize,

@@ -1,4 +1,6 @@
 // Numbers 1, 3, 4 and 5 of a selector and a mode, with the network's; and products that may not fit a word.
+#![tactic(auto)]
+
 ghost use Rattle.std.specs.Prelude.{◌≡◌, true, ◌&&◌, ℕ, ◌*◌, length, get_or, eqb, leb};
 ghost use Rattle.sequence.specs.Lists.{before};
 ghost use Rattle.sequence.specs.Answers.{first_of};

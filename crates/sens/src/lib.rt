@@ -1,4 +1,6 @@
 // sens/mod.rs, `forward_adjoint` around an outside solve: a call before it, one for its right side, and one after it.
+#![tactic(auto)]
+
 ghost use Rattle.std.specs.Prelude.{◌≡◌, ℕ, ◌*◌, ◌≤◌, length};
 ghost use Rattle.sequence.specs.Answers.{first_of, filled};
 ghost use Rattle.network.specs.Numbers.{lent};

@@ -1,4 +1,6 @@
 // sens/dc.rs, the matrix as a public call: the KKT Jacobian as triplets.
+#![tactic(auto)]
+
 ghost use Rattle.std.specs.Prelude.{◌≡◌, []};
 ghost use Rattle.sequence.specs.Sheets.{laid, lays_if, room};
 ghost use Rattle.network.specs.Layout.{ReadingsLaid};

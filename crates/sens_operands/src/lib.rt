@@ -1,4 +1,6 @@
 // sens/dc.rs, `operand_selector` as a public call.
+#![tactic(auto)]
+
 ghost use Rattle.std.specs.Prelude.{◌≡◌, ◌||◌, [], ◌∷◌, ◌+◌, ◌≤◌, length, ltb};
 ghost use Rattle.float64.specs.Values.{one};
 ghost use Rattle.sequence.specs.Lists.{made, front};
@@ -15,7 +17,7 @@ use sequence::Answer;
 use solution::piece_count;
 
 // The operands that are served.
-#[derive(Drop)]
+#[derive(Clone, Copy)]
 pub enum Reported {
     Price,
     Dispatch,
@@ -24,7 +26,7 @@ pub enum Reported {
 }
 
 // An operand that is served, or none.
-#[derive(Drop)]
+#[derive(Clone, Copy)]
 pub enum ServedOperand {
     Known(Reported),
     Unknown,

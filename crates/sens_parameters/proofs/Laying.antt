@@ -4,7 +4,7 @@ use mathlib.Core.Path.{◌≡◌, refl, sym, ap, subst, ◌∙◌}
 use mathlib.Core.Bool.{Bool, true, false, cond, not}
 use mathlib.Core.List.{List}
 use Prim.Native.Nat.{ℕ, zero, suc, ◌*◌, ◌≤◌}
-use native.Mathlib.Nat.{zero_mul, suc-mul}
+use native.Mathlib.Nat.{zero-mul, suc-mul}
 use lib.Dec.{ltb}
 use lib.ListN.{length, get_or, length-append}
 use lib.Ieee.{Float, nan}
@@ -38,7 +38,7 @@ flows_of c w ti tc p r s old e h = record {
 
 turns_long : {A : Type 0} (f : ℕ → List A) (d n : ℕ) → ((i : ℕ) → length (f i) ≡ d) → length (each n f) ≡ n * d
 unfolding each
-turns_long f d zero h = sym (zero_mul d)
+turns_long f d zero h = sym (zero-mul d)
 turns_long f d (suc n) h = length-append (each n f) (f n) ∙ rw (turns_long f d n h, h n) (sym (suc-mul n d))
 
 module _ (c : Counts) (w ti : List ℕ) (tc : List Float) (r s : List Float) (x : KktIdx) (k : Served) (is : List ℕ) (h : Indexes c w r x) where

@@ -1,4 +1,6 @@
 // sens/dc.rs, `parameter_jacobian` as a public call.
+#![tactic(auto)]
+
 ghost use Rattle.std.specs.Prelude.{◌≡◌, cond, not, ℕ, ◌*◌, ◌≤◌, ◌<◌, length, get_or, ltb};
 ghost use Rattle.sequence.specs.Lists.{front};
 ghost use Rattle.sequence.specs.Answers.{filled, short};
@@ -21,7 +23,7 @@ use solution::piece_count;
 use solution_check::solution_number;
 
 // A parameter that is served, or none.
-#[derive(Drop)]
+#[derive(Clone, Copy)]
 pub enum ServedParameter {
     Known(Served),
     Unknown,

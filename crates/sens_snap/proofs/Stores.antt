@@ -3,7 +3,7 @@
 use mathlib.Core.Path.{◌≡◌, refl, sym, ap, ◌∙◌}
 use mathlib.Core.List.{List, [], ◌∷◌, ◌++◌}
 use Prim.Native.Nat.{ℕ, suc, ◌+◌, ◌≤◌}
-use native.Mathlib.Nat.{add_zero, add-suc, suc-add, zero_add}
+use native.Mathlib.Nat.{add-zero, add-suc, suc-add, zero-add}
 use native.Mathlib.Numerals.{add-one}
 use native.Mathlib.Omega.{arith}
 use lib.ListN.{length, set, length-set, length-append}
@@ -15,7 +15,7 @@ use Rattle.sequence.proofs.Fronts.{front_more}
 module _ {A : Type 0} where
   -- two runs after each other
   pub sets_append : (l : List A) (at : ℕ) (a b : List A) (n : ℕ) → length a ≡ n → sets (sets l at a) (at + n) b ≡ sets l at (a ++ b)
-  sets_append l at [] b n e = rw (← e, add_zero)
+  sets_append l at [] b n e = rw (← e, add-zero)
   sets_append l at (x ∷ a) b n e = rw (← e, add-suc, ← suc-add) (sets_append (set l at x) (suc at) a b (length a) refl)
 
   -- new is old with f's first n values stored from a place on
@@ -51,7 +51,7 @@ module _ {A : Type 0} where
       }
 
   pub run_front : {f : ℕ → List A} {i n : ℕ} {old mid new : List A} (k : ℕ) → Runs f 0 i n old mid → length (f i) ≡ k → new ≡ sets mid n (f i) → Runs f 0 (i + 1) (n + k) old new
-  run_front {f} {i} {n} {old} {mid} k p e q = run_more k p e (q ∙ ap (λ (m : ℕ). sets mid m (f i)) (sym (zero_add n)))
+  run_front {f} {i} {n} {old} {mid} k p e q = run_more k p e (q ∙ ap (λ (m : ℕ). sets mid m (f i)) (sym (zero-add n)))
 
   -- a run from a sheet's begin is its front
   pub fronted : (words old : List A) → length words ≤ length old → sets old 0 words ≡ front words old

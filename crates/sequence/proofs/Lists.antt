@@ -1,11 +1,10 @@
 -- The laws of booleans, and of what loops make: one turn more, turns that change nothing, equal turns, runs laid end to end. Assumes nothing.
 use mathlib.Core.Path.{◌≡◌, refl, sym, ap, ◌∙◌, subst}
-use mathlib.Core.Bool.{Bool, true, false, not, ◌&&◌, ◌||◌, and-false, or-true, false≢true}
+use mathlib.Core.Bool.{Bool, true, false, ◌&&◌, ◌||◌, and-false, or-true, false≢true}
 use mathlib.Mathlib.Data.Bool.Basic.{or-eq-false-eq-eq-false-and-eq-false}
-use borrow.Author.Tests.{not-true, not_false}
 use mathlib.Core.List.{List, [], ◌∷◌, ◌++◌, map, append-nil, append_assoc}
-use mathlib.Core.Logic.{◌⊎◌, ⊎_elim}
-use Prim.Native.Nat.{ℕ, zero, suc, ◌+◌, ◌-◌, ◌*◌, ◌≤◌, ◌<◌}
+use mathlib.Core.Logic.{⊎_elim}
+use Prim.Native.Nat.{ℕ, zero, suc, ◌+◌, ◌*◌, ◌≤◌, ◌<◌}
 use native.Mathlib.Nat.{eq-or-lt_of_le, not-suc-le-zero, le_of_suc-le-suc}
 use native.Mathlib.Numerals.{add-one}
 use native.Mathlib.Omega.{arith}
@@ -30,11 +29,11 @@ pub or_none : (a b : Bool) → a || b ≡ false → (a ≡ false) × (b ≡ fals
 or_none a b = (or-eq-false-eq-eq-false-and-eq-false a b).0
 
 -- what a test of the code says of the definition that its answer equals
-pub failed : {r t : Bool} → r ≡ t → not r ≡ true → t ≡ false
-failed {r} e h = sym e ∙ not-true r h
+pub failed : {r t : Bool} → r ≡ t → r ≡ false → t ≡ false
+failed e h = sym e ∙ h
 
-pub held : {r t : Bool} → r ≡ t → not r ≡ false → t ≡ true
-held {r} e h = sym e ∙ not_false r h
+pub held : {r t : Bool} → r ≡ t → r ≡ true → t ≡ true
+held e h = sym e ∙ h
 
 -- ---- sums of counts
 

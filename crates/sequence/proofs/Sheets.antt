@@ -3,11 +3,11 @@
 use mathlib.Core.Path.{◌≡◌, refl, sym, ap, ◌∙◌}
 use Prim.Native.Nat.{ℕ, ◌+◌, ◌≤◌, ◌<◌, zero-le}
 use native.Mathlib.Numerals.{add-one}
-use native.Mathlib.Nat.{le_antisymm, le_of_eq, add-suc, suc-add, zero_add}
+use native.Mathlib.Nat.{le_antisymm, le_of_eq, add-suc, suc-add, zero-add}
 use native.Mathlib.Omega.{arith}
 use mathlib.Core.List.{List, [], ◌∷◌, ◌++◌}
 use mathlib.Core.Bool.{true, false}
-use lib.ListN.{length, length-map}
+use lib.ListN.{length, set, length-map}
 use lib.Dec.{ltb}
 use lib.Ieee.{Float}
 use lib.Seq.{sets, sets-eq}
@@ -80,18 +80,18 @@ unfolding puts put1
 full' l S [] h = ap (sheets S.rows S.cols S.values) (omega arith)
 full' l S (t ∷ ts) h =
     let b : ltb S.at l ≡ true = lt-ltb S.at l (omega arith) in
-    rw b (full' l _ ts (omega arith) ∙ simp (add-one, add-suc, suc-add))
+    rw b (full' l (sheets (set S.rows S.at t.row) (set S.cols S.at t.col) (set S.values S.at t.value) (S.at + 1)) ts (omega arith) ∙ simp (add-one, add-suc, suc-add))
 
 fronted : {A : Type 0} (vs old : List A) → length vs ≤ length old → sets old 0 vs ≡ front vs old
 unfolding front
-fronted vs old h = sets-eq vs old 0 (omega arith) ∙ rw zero_add
+fronted vs old h = sets-eq vs old 0 (omega arith) ∙ rw zero-add
 
 pub full : {l : ℕ} {ts : List Triplet} {R C : List ℕ} {X : List Float} {S₁ : Sheets}
     → Puts l ts (sheets R C X 0) S₁ → length ts ≤ l → length ts ≤ length R → length ts ≤ length C → length ts ≤ length X
     → S₁ ≡ sheets (front (rows_of ts) R) (front (cols_of ts) C) (front (values_of ts) X) (length ts)
 full {l} {ts} {R} {C} {X} p h hr hc hx =
     p.is ∙ full' l (sheets R C X 0) ts (omega arith)
-    ∙ rw (zero_add, fronted (rows_of ts) R (rw length-map hr), fronted (cols_of ts) C (rw length-map hc), fronted (values_of ts) X (rw length-map hx))
+    ∙ rw (zero-add, fronted (rows_of ts) R (rw length-map hr), fronted (cols_of ts) C (rw length-map hc), fronted (values_of ts) X (rw length-map hx))
 
 -- ---- what the passes leave of a call's three sheets
 
@@ -110,7 +110,7 @@ once {l = l} {ts} {R} {C} {R''} {C''} {X} e q h k =
 -- a counting pass counts the list, and leaves the sheets as they were
 pub counted : {ts : List Triplet} {R C R' C' : List ℕ} {X X' : List Float} {k : ℕ}
     → Puts 0 ts (sheets R C X 0) (sheets R' C' X' k) → (k ≡ length ts) × (sheets R' C' X' 0 ≡ sheets R C X 0)
-counted {ts} p = (ap (λ (S : Sheets). S.at) (dry p) ∙ zero_add (length ts), ap (λ (S : Sheets). sheets S.rows S.cols S.values 0) (dry p))
+counted {ts} p = (ap (λ (S : Sheets). S.at) (dry p) ∙ zero-add (length ts), ap (λ (S : Sheets). sheets S.rows S.cols S.values 0) (dry p))
 
 -- a refusal after a counting pass
 pub counted_refused : {number n : ℕ} {ts : List Triplet} {R C R' C' : List ℕ} {X X' : List Float} {k : ℕ}

@@ -1,6 +1,6 @@
 -- A list of triplets in three lent sheets: rows, columns and values. Assumes nothing.
 use Rattle.std.specs.Prelude.{ℕ, ◌+◌, ◌≤◌, ◌<◌, min, Bool, cond, List, [], ◌∷◌, map, ◌≡◌, length, set, eqb, ltb, Float}
-use Rattle.std.specs.Borrow.{Bor}
+use Rattle.std.specs.Borrow.{MutBor}
 use Rattle.sequence.specs.declared.Item.{Item}
 use Rattle.sequence.specs.Lists.{front, when}
 
@@ -41,7 +41,7 @@ abbrev pub sheets : List ℕ → List ℕ → List Float → ℕ → Sheets
 sheets r c v n = record { rows = r; cols = c; values = v; at = n }
 
 -- the sheets behind three references
-abbrev pub held : Bor (List ℕ) → Bor (List ℕ) → Bor (List Float) → ℕ → Sheets
+abbrev pub held : MutBor (List ℕ) → MutBor (List ℕ) → MutBor (List Float) → ℕ → Sheets
 held r c v n = sheets r.now c.now v.now n
 
 -- one more triplet: stored where its place is below the limit, and counted in any case

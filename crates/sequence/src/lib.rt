@@ -1,16 +1,18 @@
 // Triplets into three lent sheets, answers by number, and chains of equal keys.
+#![tactic(auto)]
+
 ghost use Rattle.std.specs.Prelude.{◌≡◌, ◌&&◌, ℕ, ◌+◌, ◌<◌, ◌≤◌, min, length, get_or, set};
 ghost use Rattle.sequence.specs.Sheets.{emit, held, Puts, Room, room};
 
 // A call's answer: 0, or the number of its refusal, and how much it wrote.
-#[derive(Drop)]
+#[derive(Clone, Copy)]
 pub struct Answer {
     pub number: u32,
     pub count: usize,
 }
 
 // A triplet by value, and whether it is meant at all.
-#[derive(Drop)]
+#[derive(Clone, Copy)]
 pub struct Item {
     pub keep: bool,
     pub row: u32,

@@ -1,4 +1,6 @@
 // What the program sitechange prints.
+#![tactic(auto)]
+
 ghost use Rattle.std.specs.Prelude.{◌≡◌, [], ◌∷◌, ◌++◌, true, ◌+◌, ◌*◌, ◌/◌, ◌%◌, ◌<◌, ◌≤◌, length, take};
 ghost use Rattle.io.specs.Counts.{IsPrefixLen as Counts·of};
 ghost use Rattle.io.specs.Digits.{last_digits};

@@ -1,7 +1,13 @@
 // Reads one change of document 01's network B, 12 bytes, from standard input, and prints number and
 // triplet count, then for an accepted change the triplets in its cells, in list order.
-use libc::{STDIN_FILENO, STDOUT_FILENO};
+#![tactic(auto)]
+
 use site_text::site_text;
+
+// Standard input and output, as every process is given them.
+const STDIN_FILENO: i32 = 0;
+
+const STDOUT_FILENO: i32 = 1;
 
 fn main() {
     let mut buffer = [0u8; 13];

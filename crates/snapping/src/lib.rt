@@ -1,4 +1,6 @@
 // sens/dc.rs: a solution snapped to strict complementarity, figure by figure.
+#![tactic(auto)]
+
 ghost use Rattle.std.specs.Prelude.{◌≡◌, cond, ◌<◌};
 ghost use Rattle.std.specs.Float.Ieee.{lt, le};
 ghost use Rattle.float64.specs.Values.{nought, tolerance, max_zero};
@@ -19,7 +21,7 @@ use network::{Counts, Field, Part};
 use solution::{Entry, solved_at};
 
 // The state in which a bus is found.
-#[derive(Drop)]
+#[derive(Clone, Copy)]
 pub enum BusState {
     Fixed,
     AtZero,
@@ -28,7 +30,7 @@ pub enum BusState {
 }
 
 // The state in which an inequality is found: slack above the tolerance, or its dual not positive, or kept.
-#[derive(Drop)]
+#[derive(Clone, Copy)]
 pub enum LimitState {
     Slack,
     NotPositive,
@@ -36,7 +38,7 @@ pub enum LimitState {
 }
 
 // The snapped multipliers of one linear row.
-#[derive(Drop)]
+#[derive(Clone, Copy)]
 pub struct LinearDuals {
     pub upper: f64,
     pub lower: f64,

@@ -1,4 +1,6 @@
 // A solution sheet: where each word stands, by name.
+#![tactic(auto)]
+
 ghost use Rattle.std.specs.Prelude.{◌≡◌, ◌+◌, ◌≤◌, ◌<◌, cond, eqb};
 ghost use Rattle.network.specs.Layout.{Few, WiringLaid};
 ghost use Rattle.solution.specs.Sheet.{pieces, size, entry_start, solved, SheetLaid};
@@ -7,7 +9,7 @@ use network::layout::word;
 use network::{Counts, Part};
 
 // The sheet's entries, in the paper's order.
-#[derive(Drop)]
+#[derive(Clone, Copy)]
 pub enum Entry {
     Va,
     Pg,

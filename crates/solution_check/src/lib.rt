@@ -1,4 +1,6 @@
 // Numbers 1 to 3 of a network with its solution sheet.
+#![tactic(auto)]
+
 ghost use Rattle.std.specs.Prelude.{◌≡◌, true, ℕ, ◌<◌, ◌≤◌, length, take};
 ghost use Rattle.sequence.specs.Answers.{first_of};
 ghost use Rattle.float64.specs.Values.{sheet_limit};

@@ -1,4 +1,6 @@
 // The susceptance matrix as triplets, by row, then column.
+#![tactic(auto)]
+
 ghost use Rattle.std.specs.Prelude.{◌≡◌, true, false, not, ◌||◌, ℕ, ◌+◌, ◌*◌, ◌<◌, ◌≤◌, length, get_or, eqb};
 ghost use Rattle.std.specs.Float.{nan};
 ghost use Rattle.float64.specs.Values.{nought, add_at, sub_at};

@@ -1,14 +1,11 @@
 -- The terms in one array of records, and in two arrays: lengths, fronts, and the call on the fronts.
--- Main results: `long`, `indexes_length`, `collected`, `stored_apart`, `array_called`, `called`. Assumes nothing.
+-- Main results: `indexes_length`, `collected`, `stored_apart`, `array_called`, `called`. Assumes nothing.
 use Prim.Native.Nat.{ℕ, suc, ◌+◌, ◌≤◌, ◌<◌}
 use native.Mathlib.Numerals.{add-one}
 use native.Mathlib.Omega.{arith}
 use mathlib.Core.Path.{◌≡◌, refl, sym, ap, ◌∙◌}
 use mathlib.Core.Bool.{Bool, true, false, ◌&&◌}
 use mathlib.Core.List.{List, [], ◌∷◌}
-use mir.Val.{Val}
-use denote.Laws.{Is}
-use denote.Struct.Laws as LL
 use lib.Dec.{eqb, leb}
 use lib.Ieee.{Float}
 use lib.ListN.{length, get_or, set, take, drop, drop_of_length-le, length-map}
@@ -24,12 +21,6 @@ use Rattle.model.proofs.Calls.{element_refused}
 use Rattle.terms.specs.declared.Term.{Term}
 use Rattle.terms.specs.declared.Columns.{Columns}
 use Rattle.terms.specs.Terms.{none, indexes_of, coefficients_of, network_of, array_call, Collected, Apart, columns_call}
-use Rattle.terms.specs.contracts.Columns as T
-use Rattle.terms.proofs.Columns.TheLaws as T'
-
--- each array has 1,024 places
-pub long : (c : Columns) (vs : List Val) → Is T.the_row c vs → (length c.indexes ≡ 1024) × (length c.coefficients ≡ 1024)
-long c vs is = let fs = LL.owed T.the_type T'.the_laws c vs is in (sym (length-map c.indexes (λ v. v)) ∙ fs.0.1.0.1, sym (length-map c.coefficients (λ v. v)) ∙ fs.1.0.1.0.1)
 
 pub indexes_length : (ts : List Term) → length (indexes_of ts) ≡ length ts
 unfolding indexes_of

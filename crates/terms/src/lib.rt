@@ -1,4 +1,6 @@
 // The terms as small records, each an index and a coefficient, by value or as a lent slice: taken apart into two arrays for the model's own call.
+#![tactic(auto)]
+
 ghost use Rattle.std.specs.Prelude.{◌≡◌, ℕ, ◌≤◌, take};
 ghost use Rattle.sequence.specs.Answers.{filled};
 ghost use Rattle.model.specs.Calls.{evaluate_call};
@@ -7,7 +9,7 @@ ghost use Rattle.terms.specs.Terms.{Apart, columns_call, network_of, array_call,
 use model::dc;
 use sequence::Answer;
 
-#[derive(Drop)]
+#[derive(Clone, Copy)]
 pub struct Term {
     pub index: u32,
     pub coefficient: f64,

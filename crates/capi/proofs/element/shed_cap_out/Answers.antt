@@ -1,0 +1,13 @@
+-- `capi::element::shed_cap_out` meets its contract: the cells hold the result that the bytes get. Assumes nothing.
+use native.Mathlib.Omega.{arith}
+use mathlib.Core.Path.{◌∙◌}
+use Rattle.decoding.proofs.Answered.{element_answer, element_count}
+use Rattle.capi.proofs.element.shed_cap_out.Goals as goal
+
+pub answered-requires : goal.answered-requires
+answered-requires c = let e = c.shed_cap-a.ensures in
+    omega (arith, element_count _ _ _ _ _ _ c.args.sheet.now c.args.cells.now c.requires e, c.requires.below, c.requires.within)
+
+pub returns : goal.returns
+returns c = let e = c.shed_cap-a.ensures in
+    c.answered.ensures ∙ element_answer _ _ _ _ _ _ c.args.sheet.now c.args.cells.now c.requires e

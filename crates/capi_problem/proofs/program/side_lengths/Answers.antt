@@ -1,0 +1,10 @@
+-- `capi_problem::program::side_lengths` meets its contract. Assumes nothing.
+use Rattle.capi_problem.proofs.Lengths.{sides_are}
+use Rattle.capi_problem.proofs.program.side_lengths.Goals as goal
+
+pub active_of-requires : goal.active_of-requires
+active_of-requires c = rw c.counts-c.ensures (record { wiring_laid = c.requires.wiring_laid; readings_laid = c.requires.readings_laid })
+
+pub returns : goal.returns
+returns c = let a = c.args in
+    sides_are a.wiring.now a.readings.now c.counts-c.ensures c.active_of.ensures.0 c.dc-lay.ensures c.cone_count.ensures

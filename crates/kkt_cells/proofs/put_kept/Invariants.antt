@@ -1,0 +1,19 @@
+-- `kkt_cells::put_kept` meets its contract: a kept sum more each turn, and all of them are the column's entries. Assumes nothing.
+use Prim.Native.Nat.{◌+◌, ◌-◌, ◌≤◌}
+use lib.ListN.{length}
+use Rattle.sequence.specs.Lists.{each}
+use Rattle.sequence.specs.Sheets.{Puts, sheets}
+use Rattle.kkt_cells.proofs.Cells.{replay}
+use Rattle.kkt_cells.proofs.put_kept.Given as goal
+
+abbrev pub invariant-loop-t : goal.invariant-loop-t
+invariant-loop-t l = Puts l.limit (each (l.t - l.first) (replay l.less l.from l.col l.buses l.sums l.first)) (sheets l.initial.rows l.initial.cols l.initial.values l.at) (sheets l.rows l.cols l.values l.k)
+    × (l.k ≤ l.at + (l.t - l.first))
+    × (l.first ≤ l.t)
+    × (l.t ≤ l.to)
+    × (l.to ≤ 1280)
+    × (l.to ≤ length l.buses)
+    × (l.to ≤ length l.sums)
+
+abbrev pub decreases-loop-t : goal.decreases-loop-t
+decreases-loop-t l = l.to - l.t

@@ -1,0 +1,7 @@
+-- `kkt_short::gamma_lb_column` meets its contract: its branch's ends and its slack. Assumes nothing.
+use Rattle.network.specs.Layout.{reading}
+use Rattle.kkt_short.proofs.gamma_lb_column.Goals as goal
+
+pub returns : goal.returns
+returns c = let a = c.args in
+    rw (c.ends_column.ensures, c.reading.ensures, c.angle.ensures (reading a.c a.readings.now), c.reading-sw.ensures)

@@ -1,0 +1,11 @@
+-- `model::withdrawal::fixed_into` meets its contract, word by word over the network withdrawals. Assumes nothing.
+use Prim.Native.Nat.{◌-◌, ◌≤◌}
+use Rattle.model.specs.Quantities.{fixed_at}
+use Rattle.sequence.proofs.Fronts.{Fronted}
+use Rattle.model.proofs.withdrawal.fixed_into.Given as goal
+
+abbrev pub invariant-loop-i : goal.invariant-loop-i
+invariant-loop-i l = Fronted (fixed_at l.c l.wiring l.readings) l.i l.initial.out l.out × (l.i ≤ l.n)
+
+abbrev pub decreases-loop-i : goal.decreases-loop-i
+decreases-loop-i l = l.n - l.i

@@ -1,0 +1,13 @@
+-- `opf_layout::count_inequalities` meets its contract. The loop's invariant: the inequalities of the linear rows passed. Assumes nothing.
+use mathlib.Core.Path.{◌≡◌}
+use Prim.Native.Nat.{◌*◌, ◌-◌, ◌≤◌}
+use Rattle.sequence.specs.Lists.{before}
+use Rattle.model.specs.Rows.{row_limits}
+use Rattle.opf_layout.specs.Layout.{inequalities}
+use Rattle.opf_layout.proofs.count_inequalities.Given as goal
+
+abbrev pub invariant-loop-q : goal.invariant-loop-q
+invariant-loop-q l = (l.q ≤ l.to) × (l.to ≡ l.c.rows) × (l.count ≡ before (λ i. inequalities (row_limits l.c l.wiring l.readings i)) l.q) × (l.count ≤ 2 * l.q)
+
+abbrev pub decreases-loop-q : goal.decreases-loop-q
+decreases-loop-q l = l.to - l.q

@@ -1,0 +1,12 @@
+-- `opf_readback::put_values` meets its contract: a row more each turn. Assumes nothing.
+use mathlib.Core.Path.{◌≡◌}
+use Prim.Native.Nat.{◌-◌, ◌≤◌}
+use Rattle.model.specs.Quantities.{evaluate}
+use Rattle.sens_snap.proofs.Stores.{Stored}
+use Rattle.opf_readback.proofs.put_values.Given as goal
+
+abbrev pub invariant-loop-q : goal.invariant-loop-q
+invariant-loop-q l = Stored (λ q. evaluate l.c l.wiring l.term_index l.term_coefficient q l.f l.pg) l.at l.q l.initial.out l.out × (l.q ≤ l.to) × (l.to ≡ l.c.rows)
+
+abbrev pub decreases-loop-q : goal.decreases-loop-q
+decreases-loop-q l = l.to - l.q

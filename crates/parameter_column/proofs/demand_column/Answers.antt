@@ -1,0 +1,16 @@
+-- `parameter_column::demand_column` meets its contract. Assumes nothing.
+use mathlib.Core.Path.{◌∙◌}
+use Rattle.solution.specs.Sheet.{solved}
+use lib.Ieee.{of_bits, of_int}
+use Rattle.float64.specs.Values.{whole}
+use Rattle.kkt_index.specs.Index.{start_in}
+use Rattle.parameter_column.specs.Columns.{valued}
+use Rattle.parameter_column.proofs.Touching.{then}
+use Rattle.parameter_column.proofs.demand_column.Goals as goal
+
+pub shape_of-column : goal.shape_of-column
+shape_of-column c = c.touch-2.ensures.touched.kept ∙ c.touch.ensures.touched.kept
+
+pub returns : goal.returns
+unfolding valued whole of_int of_bits
+returns c = let a = c.args in λ ti tc. then (start_in a.idx) c.touch.ensures.touched (rw (c.mu_ub_of.ensures, c.cap_rate.ensures (solved a.c a.idx.pieces a.solution.now)) at c.touch-2.ensures.touched)

@@ -1,0 +1,14 @@
+-- `problem::nodal_into` meets its contract, bus by bus. Assumes nothing.
+use Prim.Native.Nat.{◌-◌, ◌≤◌}
+use mathlib.Core.Path.{◌≡◌}
+use Rattle.sequence.proofs.Fronts.{Fronted}
+use Rattle.network.specs.declared.Field.TheVariants.{BaseMva}
+use Rattle.network.specs.Layout.{reading}
+use Rattle.problem.proofs.Nodal.{nodal}
+use Rattle.problem.proofs.nodal_into.Given as goal
+
+abbrev pub invariant-loop-i : goal.invariant-loop-i
+invariant-loop-i l = Fronted (nodal l.c l.p l.readings l.solution) l.i l.initial.out l.out × (l.i ≤ l.to) × (l.to ≡ l.c.buses) × (l.base ≡ reading l.c l.readings BaseMva 0)
+
+abbrev pub decreases-loop-i : goal.decreases-loop-i
+decreases-loop-i l = l.to - l.i

@@ -1,0 +1,23 @@
+-- `raw_check::raw_is_long` meets its contract: where the network's sizes hold, both lengths are compared. Assumes nothing.
+use mathlib.Core.Path.{◌∙◌}
+use borrow.Author.Tests.{ne_eqb}
+use Rattle.sequence.proofs.Lists.{failed, held}
+use Rattle.network.proofs.Tests.{sized_nine, sized_wiring, sized_readings}
+use Rattle.solution_check.proofs.Own.{apart}
+use Rattle.raw_check.proofs.Raw.{rows_left, columns_off}
+use Rattle.raw_check.proofs.raw_is_long.Goals as goal
+
+pub returns-then-not-sizes_hold : goal.returns-then-not-sizes_hold
+returns-then-not-sizes_hold c = λ e. absurd (apart _ e (failed c.sizes_hold.ensures c.if-not-sizes_hold.true))
+
+pub counts-c-requires : goal.counts-c-requires
+counts-c-requires c = sized_nine _ (held c.sizes_hold.ensures c.if-not-sizes_hold.false)
+
+pub active_of-requires : goal.active_of-requires
+active_of-requires c = let h = held c.sizes_hold.ensures c.if-not-sizes_hold.false in rw c.counts-c.ensures (record { wiring_laid = sized_wiring _ h; readings_laid = sized_readings _ h })
+
+pub returns-then-x-lay : goal.returns-then-x-lay
+returns-then-x-lay c = λ e. rows_left _ _ _ c.counts-c.ensures c.active_of.ensures.0 c.dc-lay.ensures c.if-x-lay.true
+
+pub returns-else-x-lay : goal.returns-else-x-lay
+returns-else-x-lay c = λ e. ne_eqb _ _ c.if-x-lay.false ∙ columns_off _ _ _ c.counts-c.ensures c.active_of.ensures.0 c.dc-lay.ensures c.if-x-lay.false

@@ -1,0 +1,14 @@
+-- `sens_parameters::columns_hold` meets its contract: a column more each turn. Assumes nothing.
+use Prim.Native.Nat.{◌-◌, ◌≤◌}
+use mathlib.Core.Path.{◌≡◌}
+use mathlib.Core.Bool.{true}
+use lib.Dec.{ltb}
+use lib.ListN.{get_or}
+use Rattle.sequence.specs.Lists.{every}
+use Rattle.sens_parameters.proofs.columns_hold.Given as goal
+
+abbrev pub invariant-loop-t : goal.invariant-loop-t
+invariant-loop-t l = (every (λ i. ltb (get_or l.columns i 0) l.most) l.t ≡ true) × (l.t ≤ l.to)
+
+abbrev pub decreases-loop-t : goal.decreases-loop-t
+decreases-loop-t l = l.to - l.t

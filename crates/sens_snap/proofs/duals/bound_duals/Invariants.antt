@@ -1,0 +1,14 @@
+-- `sens_snap::duals::bound_duals` meets its contract, branch by branch. Assumes nothing.
+use Prim.Native.Nat.{◌-◌, ◌≤◌}
+use mathlib.Core.Path.{◌≡◌}
+use lib.Ieee.{binary64, sub}
+use Rattle.sequence.proofs.Fronts.{Fronted}
+use Rattle.solution.specs.declared.Entry.TheVariants.{LamUb, LamLb}
+use Rattle.solution.specs.Sheet.{solved}
+use Rattle.sens_snap.proofs.duals.bound_duals.Given as goal
+
+abbrev pub invariant-loop-e : goal.invariant-loop-e
+invariant-loop-e l = Fronted (λ e. sub binary64 (solved l.c l.p l.sheet LamUb e) (solved l.c l.p l.sheet LamLb e)) l.e l.initial.out l.out × (l.e ≤ l.to) × (l.to ≡ l.c.branches)
+
+abbrev pub decreases-loop-e : goal.decreases-loop-e
+decreases-loop-e l = l.to - l.e

@@ -1,0 +1,72 @@
+-- `sens_snap::duals::nu_flow_into` meets its contract. At each branch, q rows have taken their turns. Assumes nothing.
+use Prim.Native.Nat.{◌-◌}
+use mathlib.Core.Path.{◌≡◌, refl, sym, ◌∙◌}
+use native.Mathlib.Omega.{arith}
+use lib.Ieee.{nan}
+use Rattle.sequence.proofs.Lists.{turns_none, turns_more}
+use Rattle.sequence.proofs.Fronts.{front_made, front_at, over}
+use Rattle.model.proofs.Runs.{terms_none, terms_more, terms_inside}
+use Rattle.snapping.specs.Snap.{nu_flow}
+use Rattle.sens_snap.proofs.duals.nu_flow_into.Goals as goal
+
+pub bound_duals-requires-clause-sheet_laid : goal.bound_duals-requires-clause-sheet_laid
+bound_duals-requires-clause-sheet_laid c = c.requires.sheet_laid
+
+pub bound_duals-requires-clause-branches_in_bounds : goal.bound_duals-requires-clause-branches_in_bounds
+bound_duals-requires-clause-branches_in_bounds c = c.requires.branches_in_bounds
+
+pub loop-q-init : goal.loop-q-init
+loop-q-init c = let p = c.bound_duals.ensures.out_after in
+    ((λ e h. rw p (front_at _ _ _ e nan h ∙ turns_none _ _)), (λ e h. refl), refl, omega arith, refl, terms_none _ _)
+
+pub add_row-requires-clause-wired : goal.add_row-requires-clause-wired
+add_row-requires-clause-wired c = let i = c.loop-q.invariant in c.requires.wired
+
+pub add_row-requires-clause-readings_laid : goal.add_row-requires-clause-readings_laid
+add_row-requires-clause-readings_laid c = let i = c.loop-q.invariant in c.requires.readings_laid
+
+pub add_row-requires-clause-termed : goal.add_row-requires-clause-termed
+add_row-requires-clause-termed c = let i = c.loop-q.invariant in c.requires.termed
+
+pub add_row-requires-clause-sheet_laid : goal.add_row-requires-clause-sheet_laid
+add_row-requires-clause-sheet_laid c = let i = c.loop-q.invariant in c.requires.sheet_laid
+
+pub add_row-requires-clause-q_lt_rows : goal.add_row-requires-clause-q_lt_rows
+add_row-requires-clause-q_lt_rows c = let i = c.loop-q.invariant in (omega arith, i.5, omega (arith, i.2, c.bound_duals.ensures.out_len_unchanged, c.requires.branches_in_bounds))
+
+pub row_terms-start-requires-clause-wiring_laid : goal.row_terms-start-requires-clause-wiring_laid
+row_terms-start-requires-clause-wiring_laid c = c.requires.wired.laid
+
+pub overflow_add-start : goal.overflow_add-start
+overflow_add-start c = let l = c.loop-q in
+    omega (arith, terms_inside c.requires.wired l.q (omega arith), c.requires.wired.laid.few)
+
+pub loop-q-preserved : goal.loop-q-preserved
+loop-q-preserved c = let a = c.add_row.ensures in
+    let l = c.loop-q in
+    let i = l.invariant in (
+      (λ e h. a.by_index e h ∙ rw (i.0 e h) (sym (turns_more _ _ l.q))),
+      (λ e h. a.by_index_2 e h ∙ i.1 e h),
+      a.out_len_unchanged ∙ i.2,
+      omega arith,
+      i.4,
+      rw (terms_more, ← i.5, ← c.row_terms-start.ensures.0),
+    )
+
+pub returns-clause-out_after : goal.returns-clause-out_after
+unfolding nu_flow
+returns-clause-out_after c = let l = c.loop-q in
+    let e : l.q ≡ c.args.c.rows = omega arith in
+    let b = c.bound_duals.ensures in
+    let p =
+    over (record { is = b.out_after; kept = b.out_len_unchanged })
+    (record { is = front_made _ _ nan _ _ l.invariant.2 (omega arith) (rw e at l.invariant.0) l.invariant.1; kept = l.invariant.2 }) in p.is
+
+pub returns-clause-out_len_unchanged : goal.returns-clause-out_len_unchanged
+unfolding nu_flow
+returns-clause-out_len_unchanged c = let l = c.loop-q in
+    let e : l.q ≡ c.args.c.rows = omega arith in
+    let b = c.bound_duals.ensures in
+    let p =
+    over (record { is = b.out_after; kept = b.out_len_unchanged })
+    (record { is = front_made _ _ nan _ _ l.invariant.2 (omega arith) (rw e at l.invariant.0) l.invariant.1; kept = l.invariant.2 }) in p.kept

@@ -1,0 +1,21 @@
+-- `sens_snap::sheet::put_segment_duals` meets its contract: a generator more each turn, its rank and its first segment carried along. Assumes nothing.
+use Prim.Native.Nat.{◌-◌, ◌≤◌}
+use mathlib.Core.Path.{◌≡◌}
+use Rattle.network.specs.Layout.{segment_start}
+use Rattle.solution.specs.Sheet.{piece_rank}
+use Rattle.snapping.specs.Snap.{segment_words}
+use Rattle.sens_snap.proofs.Stores.{Runs}
+use Rattle.sens_snap.proofs.sheet.put_segment_duals.Given as goal
+
+abbrev pub invariant-loop-j : goal.invariant-loop-j
+invariant-loop-j l = Runs (segment_words l.c l.wiring l.p l.readings l.sheet) l.at l.j l.start l.initial.out l.out
+    × (l.j ≤ l.to)
+    × (l.to ≡ l.c.generators)
+    × (l.to ≤ 256)
+    × (l.g ≡ piece_rank l.c l.wiring l.j)
+    × (l.g ≤ l.j)
+    × (l.start ≡ segment_start l.c l.wiring l.j)
+    × (l.start ≤ 1024)
+
+abbrev pub decreases-loop-j : goal.decreases-loop-j
+decreases-loop-j l = l.to - l.j

@@ -1,0 +1,6 @@
+-- `snapping::gamma_lb_of` meets its contract: the limit's slack and its dual. Assumes nothing.
+use Rattle.float64.specs.Values.{nought}
+use Rattle.snapping.proofs.gamma_lb_of.Goals as goal
+
+pub returns : goal.returns
+returns c = rw (c.limit_value.ensures, c.solved_at.ensures, c.reading.ensures, c.angle.ensures (λ f i. nought))

@@ -1,0 +1,12 @@
+-- `susceptance::walk` meets its contract: the row after the ends below x. Assumes nothing.
+use Prim.Native.Nat.{◌-◌, ◌*◌, ◌≤◌, ◌<◌}
+use mathlib.Core.Path.{◌≡◌}
+use lib.ListN.{length}
+use Rattle.susceptance.specs.Incidence.{end_at, RowAt}
+use Rattle.susceptance.proofs.walk.Given as goal
+
+abbrev pub invariant-loop-x : goal.invariant-loop-x
+invariant-loop-x l = RowAt l.c l.wiring l.readings l.i l.x l.acc l.hit × (length l.acc ≡ length l.initial.acc) × (length l.hit ≡ length l.initial.hit) × (l.x ≤ 2 * l.c.branches) × (l.x < 2 * l.c.branches → end_at l.c l.wiring l.x ≡ l.i)
+
+abbrev pub decreases-loop-x : goal.decreases-loop-x
+decreases-loop-x l = 2 * l.c.branches - l.x

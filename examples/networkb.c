@@ -1,7 +1,7 @@
 /* Prints the KKT matrix of document 01's network B: the answer's number and triplet count, then each triplet's row,
  * column and value's bits. Build it against libcapi_sens.a:
  *
- *   rt staticlib capi_sens
+ *   harness/libraries
  *   cc -I include examples/networkb.c target/staticlib/libcapi_sens.a -o networkb
  */
 #include <inttypes.h>

@@ -11,12 +11,14 @@ use std::{env, fs, process};
 const MODIFIERS: [&str; 9] =
     ["pub", "abbrev", "unfoldable", "record", "data", "struct", "enum", "const", "fn"];
 
-/// Every file below a folder.
+/// Every file below a folder, but what a build made in a folder out/.
 fn files(folder: &Path, found: &mut Vec<PathBuf>) {
     let Ok(entries) = fs::read_dir(folder) else { return };
     for path in entries.flatten().map(|entry| entry.path()) {
         if path.is_dir() {
-            files(&path, found);
+            if !path.ends_with("out") {
+                files(&path, found);
+            }
         } else {
             found.push(path);
         }

@@ -1,29 +1,29 @@
 //! Whether each must-fail edit is refused because a fact fails, and not because the proof's text no
 //! longer fits the edited program. Reads what `rt ci` or `rt must-fail` prints.
 //!
-//!   sorted FOLDER FILE      the repository's folder, and what was printed
+//!   sorted FOLDER FILE                     the repository's folder, and what was printed
+//!   sorted --whole FOLDER FILE ERRORS      prints the lines of read.txt: ERRORS has the whole errors
 //!
 //! rt says of each edit what the check came to, and behind `refused, as it must be: ` the first 160
 //! characters of the first error or note that is not a proof file's complaint of a name that is
 //! gone or of another declaration that was not admitted; where there is no other, rt says so, and that
-//! is no failed fact. Of what it shows, failed facts are:
+//! is no failed fact. Failed facts are:
 //! - a note of what the checker's own search leaves unproved;
 //! - omega finds numbers at which what is known holds and the goal does not;
 //! - search or grind finds no proof of a goal;
 //! - all rewritings are made, and the two sides of the equation that is left are not equal;
 //! - two terms that have to be equal are compared, and are not;
-//! - two types, or the two sides of an equation, are compared and differ in one place, or first in one,
-//!   or one statement is needed and another is given. A statement is a relation, a part of a contract or
+//! - one statement is needed and another is given. A statement is a relation, a part of a contract or
 //!   what a crate declares as a family of types, as `Runs` or `Alike`.
-//! The last is no failed fact where the place is a relation and the other has another relation, where
-//! the two differ only in how many steps back they look, or where a need of another name is given: there
-//! the proof no longer fits, as where a rewriting finds nothing, or where a name, a field or an argument is
-//! not there. Where rt's 160 characters end before what decides, a text that is begun counts as said from
-//! its sixteenth character on. Where they end too soon for that, the whole error was read by hand, and the file
-//! read.txt beside src/ has the edit with what rt shows of it: only that very text counts as a failed fact.
-//! Any other error of no kind named here is a failure too, and so is an edit that was
-//! refused by a limit of the prover alone, that is not refused, that cannot be applied or read, or of which
-//! nothing is said.
+//! The last is no failed fact where the two are different relations, where they differ only in how many
+//! steps back they look, or where a need of another name is given: there the proof no longer fits, as where a
+//! rewriting finds nothing, or where a name, a field or an argument is not there. An error of no kind
+//! named here is a failure too: it is to be read, and then named. So is an edit that was refused by a
+//! limit of the prover alone, that is not refused, that cannot be applied or read, or of which nothing is said.
+//!
+//! 160 characters often end before what decides. For such an edit the whole error was judged by these very
+//! rules, and read.txt, beside src/, has the edit with what rt shows of it: only that text counts. Where an edit
+//! or a proof changes it, `harness/errors CRATE/EDIT..` prints the whole error, and `--whole` the line.
 
 use std::collections::{HashMap, HashSet};
 use std::path::Path;
@@ -37,22 +37,20 @@ enum Kind {
     Limit,
     /// Not refused, not tried, or no edit of the file as it stands.
     Bad,
+    /// rt shows less than decides.
+    CutOff,
     Unknown,
 }
 
 /// How many characters rt shows of an error.
 const SHOWN: usize = 160;
 
-/// From how many characters on a text that is cut off counts as said.
-const BEGUN: usize = 16;
-
 /// Texts of a failed fact.
 const FACTS: [&str; 5] = [
     "`omega`: the goal does not follow from what it read",
     "`search`: no proof of `",
     "`grind`: the goal does not follow",
-    // what `rw` or `simp` leaves is not closed
-    "give a proof of that as the last argument, `",
+    "has no last argument, so what it leaves must be a path whose two ends are equal, and `",
     "does not hold (this comparison",
 ];
 
@@ -62,26 +60,11 @@ const PART: [&str; 2] = [
     "of the goal does not follow from what it read",
 ];
 
-/// How the checker begins to say where two types, or the two sides of an equation, differ.
-const COMPARED: [&str; 5] = [
-    "as printed, the two types ",
-    "as printed, the two sides ",
-    "computed as far as they go, the two types ",
-    "computed as far as they go, the two sides ",
-    "computed as a goal is, one side reads `",
-];
+/// How the checker says of two sides, or of two types, that they differ.
+const DIFFER: [&str; 2] = ["differ only where one has", "first differ where one has"];
 
 /// How it says so of what it computed.
-const COMPUTED: &str = "computed as far as they go, ";
-
-/// What it says of both before the first of two terms.
-const DIFFER: [&str; 5] = [
-    "differ only where one has",
-    "first differ where one has",
-    "the two types are",
-    "the two sides are",
-    "one side reads",
-];
+const COMPUTED: &str = "computed as far as they go, the two types";
 
 /// Texts of a proof that no longer fits.
 const MISFITS: [&str; 9] = [
@@ -96,6 +79,9 @@ const MISFITS: [&str; 9] = [
     "is not a definition",
 ];
 
+/// How the checker names what a goal of a contract asks: two of them are two goals.
+const ASKS: &str = "Asks-";
+
 /// Relations: two of them are two statements, and neither is the other's failure.
 const RELATIONS: [(&str, &str); 8] = [
     ("◌≡◌", "≡"),
@@ -108,8 +94,11 @@ const RELATIONS: [(&str, &str); 8] = [
     ("≠", "≠"),
 ];
 
-/// Parts of a contract, as the checker names them.
-const CONTRACTS: [&str; 4] = ["Post", "Learnt", "Asked", "Pre"];
+/// Parts of a contract, as the checker names them: the last two are what a call requires, and several clauses, a record of them.
+const CONTRACTS: [&str; 6] = ["Post", "Learnt", "Asked", "Pre", CLAIMS, "record"];
+
+/// How it names what calls require: `(..Tie.the-claims).6`, with the call's place.
+const CLAIMS: &str = "the-claims";
 
 /// How the checker marks a part of a text that it left out.
 const LEFT_OUT: &str = "…[";
@@ -122,24 +111,12 @@ fn is_cut(text: &str) -> bool {
     text.chars().count() >= SHOWN
 }
 
-/// Whether a text has a phrase, or is cut off within it.
-fn says(text: &str, phrase: &str) -> bool {
-    let begun = |n: &usize| {
-        let start: String = phrase.chars().take(*n).collect();
-        text.ends_with(&start)
-    };
-    text.contains(phrase) || is_cut(text) && (BEGUN..phrase.chars().count()).any(|n| begun(&n))
-}
-
-/// The text between the first backquotes after a phrase, and what follows it; up to the end where it is cut off.
+/// The text between the first backquotes after a phrase, and what follows it.
 fn quoted<'a>(text: &'a str, phrase: &str) -> Option<(&'a str, &'a str)> {
     let from = text.find(phrase)? + phrase.len();
     let open = from + text[from..].find('`')? + 1;
-    match text[open..].find('`') {
-        Some(close) => Some((&text[open..open + close], &text[open + close + 1..])),
-        None if is_cut(text) => Some((&text[open..], "")),
-        None => None,
-    }
+    let close = open + text[open..].find('`')?;
+    Some((&text[open..close], &text[close + 1..]))
 }
 
 /// What a type says first: the relation that stands outside all parentheses (anywhere, where the
@@ -155,6 +132,9 @@ fn head(term: &str) -> &str {
     }
     let outside = |word: &&&str| relation(word).is_some();
     let first = words.first().copied().unwrap_or("");
+    if first.contains(".Tie.the-claims).") {
+        return CLAIMS;
+    }
     let said = words.iter().skip(1).find(outside).copied().unwrap_or(first);
     said.rsplit('.').next().unwrap_or(said)
 }
@@ -173,79 +153,77 @@ fn without_steps(term: &str) -> String {
     term.replace(".before", "")
 }
 
-/// The kind of an error that compares two types, or the two sides of an equation.
-fn compared(text: &str) -> Kind {
-    let is_computed = text.contains(COMPUTED);
-    // cut off within the words before the place
-    let Some((one, rest)) = DIFFER.iter().find_map(|it| quoted(text, it)) else {
-        return Kind::Fact;
-    };
-    // `a < b` is written `suc a ≤ b` too: where both are computed they are one relation
-    let relation = |term: &str| relation(term).filter(|_| !is_computed);
-    match quoted(rest, "(expected) and ").or_else(|| quoted(rest, "the other has")) {
-        Some((other, _)) if without_steps(one) == without_steps(other) => Kind::Misfit,
-        Some((other, _)) => match (relation(one), relation(other)) {
-            (Some(a), Some(b)) if a != b => Kind::Misfit,
-            _ => Kind::Fact,
-        },
-        None if one.contains(".before") || relation(one).is_some() => Kind::Unknown,
-        None => Kind::Fact,
-    }
+/// The two terms that are said to differ, where both are shown.
+fn place(text: &str) -> Option<(&str, &str)> {
+    let at = DIFFER.iter().filter_map(|it| text.rfind(it)).max()?;
+    let (one, rest) = quoted(&text[at..], "where one has")?;
+    let (other, _) = quoted(rest, "the other has")?;
+    Some((one, other))
 }
 
 /// The kind of an error that says which type is needed and which is given.
 fn mismatch(text: &str, families: &HashSet<String>) -> Kind {
-    let Some((needed, rest)) = quoted(text, "expected type") else {
+    let Some((needed, _)) = quoted(text, "expected type") else {
         return Kind::Unknown;
     };
-    let given = quoted(rest, "but this has type").map_or("", |(given, _)| given);
+    let Some((given, _)) = quoted(text, "but this has type") else {
+        return Kind::Unknown;
+    };
     let heads = [head(needed), head(given)];
-    if heads.iter().any(|head| head.starts_with("Need-")) {
+    let asks = |head: &&str| head.starts_with(ASKS);
+    if heads.iter().any(|head| head.starts_with("Need-")) || heads.iter().all(asks) {
         return Kind::Misfit;
     }
+    // `a < b` is written `suc a ≤ b` too: where both are computed and differ further in, they are one relation
+    let computed = text.contains(COMPUTED);
     match (relation(heads[0]), relation(heads[1])) {
-        (Some(a), Some(b)) if a != b => return Kind::Misfit,
+        (Some(a), Some(b)) if a != b && !computed => return Kind::Misfit,
         _ => {}
     }
-    // where a part of what is given is left out, what is needed decides
-    let cut = |term: &str| term.contains(LEFT_OUT) || is_cut(text);
+    // where the checker left out a part of what is given, what is needed decides
+    let cut = |term: &str| term.contains(LEFT_OUT);
     let said = |head: &str| {
-        relation(head).is_some() || CONTRACTS.contains(&head) || families.contains(head)
+        let contract = CONTRACTS.contains(&head) || head.starts_with(ASKS);
+        relation(head).is_some() || contract || families.contains(head)
     };
-    if said(heads[0]) && (said(heads[1]) || cut(given)) {
-        Kind::Fact
-    } else {
-        Kind::Unknown
+    if !said(heads[0]) || !(said(heads[1]) || cut(given)) {
+        return Kind::Unknown;
+    }
+    match place(text) {
+        Some((a, b)) if without_steps(a) == without_steps(b) => Kind::Misfit,
+        _ => Kind::Fact,
     }
 }
 
-/// The kind of an error by what rt shows of it.
-fn kind(text: &str, families: &HashSet<String>) -> Kind {
+/// The kind of an error by its text, of which rt may show only the beginning.
+fn kind(text: &str, shown: bool, families: &HashSet<String>) -> Kind {
     if text.starts_with("note: ") {
-        let unproved = says(text, ": it is not proved that ");
+        let unproved = text.contains(": it is not proved that ");
         return if unproved { Kind::Fact } else { Kind::Unknown };
     }
-    let Some((place, said)) = text.split_once(": error: ") else {
+    let Some((at, said)) = text.split_once(": error: ") else {
         return Kind::Unknown;
     };
-    if place.contains(' ') {
+    if at.contains(' ') {
         return Kind::Unknown;
+    }
+    if FACTS.iter().any(|fact| said.contains(fact)) || PART.iter().all(|part| said.contains(part)) {
+        return Kind::Fact;
+    }
+    if said.contains("but this has type") && !(shown && is_cut(text)) {
+        return mismatch(said, families);
     }
     if MISFITS.iter().any(|misfit| said.contains(misfit)) {
         return Kind::Misfit;
     }
-    let part = said.contains(PART[0]) && (is_cut(text) || said.contains(PART[1]));
-    if part || FACTS.iter().any(|fact| says(text, fact)) {
-        return Kind::Fact;
+    if shown {
+        return Kind::CutOff;
     }
-    if COMPARED.iter().any(|it| says(text, it)) {
-        return compared(text);
-    }
-    mismatch(text, families)
+    Kind::Unknown
 }
 
 /// The kind of what rt says of an edit, and what decides it.
-fn judged<'a>(said: &'a str, families: &HashSet<String>) -> (Kind, &'a str) {
+fn judged<'a>(said: &'a str, shown: bool, families: &HashSet<String>) -> (Kind, &'a str) {
     let Some(rest) = said.strip_prefix(REFUSED) else {
         return (Kind::Bad, said);
     };
@@ -256,7 +234,7 @@ fn judged<'a>(said: &'a str, families: &HashSet<String>) -> (Kind, &'a str) {
         return (Kind::Misfit, said);
     }
     let text = rest.strip_prefix(": ").unwrap_or(rest);
-    (kind(text, families), text)
+    (kind(text, shown, families), text)
 }
 
 /// The edits whose whole error was read, each with what rt shows of it behind the place.
@@ -334,20 +312,53 @@ fn edits(crates: &Path) -> Vec<String> {
     found
 }
 
-fn main() {
-    let words: Vec<String> = env::args().skip(1).collect();
-    let [root, file] = words.as_slice() else {
-        eprintln!("usage: sorted FOLDER FILE");
-        process::exit(2);
-    };
-    let crates = Path::new(root).join("crates");
-    let log = match fs::read(file) {
-        Ok(log) => String::from_utf8_lossy(&log).to_string(),
+/// What a file has, or an end with what is wrong.
+fn read(file: &str) -> String {
+    match fs::read(file) {
+        Ok(text) => String::from_utf8_lossy(&text).to_string(),
         Err(error) => {
             eprintln!("sorted: {file}: {error}");
             process::exit(2);
         }
+    }
+}
+
+/// Prints a line for each edit whose error, as rt shows it, does not decide, and as a whole is a failed fact.
+fn write_read(root: &str, file: &str, errors: &str) {
+    let (shown, whole) = (read(file), read(errors));
+    let (shown, whole) = (told(&shown), told(&whole));
+    let mut statements = HashSet::new();
+    let crates = Path::new(root).join("crates");
+    families(&crates, &mut statements);
+    for edit in &edits(&crates) {
+        let Some((kind, text)) = shown.get(edit).map(|it| judged(it, true, &statements)) else {
+            continue;
+        };
+        if kind != Kind::CutOff {
+            continue;
+        }
+        let said = text.split_once(": error: ").map_or(text, |(_, said)| said);
+        match whole.get(edit).map(|it| judged(it, false, &statements)) {
+            Some((Kind::Fact, error)) if error.contains(said) => println!("{edit}: {said}"),
+            Some((kind, error)) => eprintln!("{edit}: {kind:?}: {error}"),
+            None => eprintln!("{edit}: nothing is said of it"),
+        }
+    }
+}
+
+fn main() {
+    let words: Vec<String> = env::args().skip(1).collect();
+    let words: Vec<&str> = words.iter().map(String::as_str).collect();
+    let (root, file) = match words.as_slice() {
+        ["--whole", root, file, errors] => return write_read(root, file, errors),
+        [root, file] => (root, file),
+        _ => {
+            eprintln!("usage: sorted FOLDER FILE, or sorted --whole FOLDER FILE ERRORS");
+            process::exit(2);
+        }
     };
+    let crates = Path::new(root).join("crates");
+    let log = read(file);
     let (all, said) = (edits(&crates), told(&log));
     let mut statements = HashSet::new();
     families(&crates, &mut statements);
@@ -359,8 +370,8 @@ fn main() {
             missing += 1;
             continue;
         };
-        let (mut kind, text) = judged(said, &statements);
-        if kind == Kind::Unknown && was_read(edit, text, READ) {
+        let (mut kind, text) = judged(said, true, &statements);
+        if kind == Kind::CutOff && was_read(edit, text, READ) {
             kind = Kind::Fact;
         }
         let (count, what) = match kind {
@@ -368,6 +379,7 @@ fn main() {
             Kind::Misfit => (&mut misfits, "the proof no longer fits"),
             Kind::Limit => (&mut limits, "only a limit of the prover"),
             Kind::Bad => (&mut bad, "not refused"),
+            Kind::CutOff => (&mut unknown, "rt shows less than decides"),
             Kind::Unknown => (&mut unknown, "an error of no known kind"),
         };
         *count += 1;
@@ -377,7 +389,7 @@ fn main() {
     }
     println!(
         "sorted: {} edits: {facts} refused by a fact, {misfits} by a proof that no longer fits, {limits} by a limit, \
-         {unknown} by an error of no known kind, {bad} not refused, {missing} of which nothing is said",
+         {unknown} by an error that is not known, {bad} not refused, {missing} of which nothing is said",
         all.len()
     );
     process::exit(i32::from(facts != all.len() || all.is_empty()));
@@ -387,67 +399,110 @@ fn main() {
 mod tests {
     use super::*;
 
-    /// What rt shows of an error at this place.
-    fn shown(place: &str, text: &str) -> String {
-        format!("{place}: error: {text}")
-            .chars()
-            .take(SHOWN)
-            .collect()
-    }
-
+    /// The kind of a whole error.
     fn kind(text: &str) -> Kind {
-        super::kind(text, &HashSet::from(["Runs".to_string()]))
+        let text = format!("./proofs/f/Answers.antt:1:2: error: {text}");
+        super::kind(&text, false, &HashSet::from(["Runs".to_string()]))
     }
 
-    fn error(text: &str) -> Kind {
-        kind(&shown("./proofs/f/Answers.antt:1:2", text))
+    /// The kind of what rt shows.
+    fn shown(text: &str) -> Kind {
+        let text: String = text.chars().take(SHOWN).collect();
+        super::kind(&text, true, &HashSet::new())
     }
 
     fn judged(said: &str) -> Kind {
-        super::judged(said, &HashSet::new()).0
+        super::judged(said, true, &HashSet::new()).0
+    }
+
+    /// What is needed and what is given, as the checker says it.
+    fn mismatched(needed: &str, given: &str, a: &str, b: &str) -> String {
+        format!(
+            "`returns`: as printed, the two types differ only where one has `{a}` (expected), at \
+             the start, and the other has `{b}` (found) expected type `{needed}`, but this has type `{given}`"
+        )
     }
 
     #[test]
     fn facts() {
         let texts = [
-            "./proofs/KktIdx/new/Answers.antt:18:22: error: `returns`: `omega`: the goal does not follow from what it read. All of that holds, and the goal fails, at `c.args",
-            "./proofs/dc/lay_counted/Answers.antt:27:13: error: `returns`: as printed, the two types differ only where one has `c.args.cap` (expected), right after `mathlib.",
-            "./proofs/withdrawal/phase_into/Answers.antt:14:20: error: `loop-e-init`: computed as far as they go, the two types differ only where one has `1` (expected) and ",
-            "./proofs/withdrawal/shed_cap_at/Answers.antt:8:86: error: `returns-then-wiring-eq1`: as printed, the two types differ only where one has `allow_shed c.args.wiri",
-            "./proofs/Contraction.antt:47:25: error: `exchanged_sum`: as printed, the two types first differ where one has `t.col` (expected), right after `… 𝓡 (exchanged K)",
-            "./proofs/active_of/Answers.antt:14:7: error: `returns`: give a proof of that as the last argument, `rw L t` (`rw L ?` shows it as a hole's goal), or add what is ",
-            "./proofs/put/Answers.antt:15:71: error: `returns-then-at-limit-clause-puts`: give a proof of that as the last argument, `simp L t` (`simp L ?` shows it as a hol",
-            "./proofs/solution_number/Answers.antt:26:96: error: `returns-then-sheet_holds-clause-value`: computed as a goal is, one side reads `mathlib.Core.Path.◌≡◌ {A = P",
-            "./proofs/put_short/Answers.antt:36:113: error: `loop-i-preserved`: as printed, the two sides first differ where one has `Rattle.kkt.specs.Walks.item_in (borrow.",
-            "./proofs/unknown/Answers.antt:20:31: error: `returns-then-not-in_range`: expected type `4 ≡ unknown_number c.args.base`, but this has type `3 ≡ unknown_number (",
-            "note: src/lib.rt:154:1: it is not proved that what the function ensures holds when it returns (`returns-in-Both`)",
+            "`returns-3`: `omega`: the goal does not follow from what it read. All of that holds, and the goal fails, at `x` = 513.",
+            "`encode-doubles-requires`: `omega`: the part `.0` of the goal does not follow from what it read. All of that holds, and the part fails, at `x` = 1, `y` = 0.",
+            "`put-spec`: `search`: no proof of `InSlice T15 1 9` was found. It stopped 5 lemmas deep",
+            "`returns`: give a proof of that as the last argument, `rw L t`, or add what is missing to the list \
+             `rw` has no last argument, so what it leaves must be a path whose two ends are equal, and `Path Float (le a b) (lt a b)` is none",
+            "`returns`: expected type `Runs x y`, but this has type `Runs x z`",
+            "`returns`: expected type `x ◌≡◌ y`, but this has type `mathlib.Core.Path.◌≡◌ x z`",
         ];
         for text in texts {
             assert_eq!(kind(text), Kind::Fact, "{text}");
         }
-        let texts = [
-            "`encode-doubles-requires`: `omega`: the part `.0` of the goal does not follow from what it read. All of that holds, and the part fails, at `x` = 1, `y` = 0.",
-            "`put-spec`: `search`: no proof of `InSlice T15 1 9` was found. It stopped 5 lemmas deep",
-            "`returns`: computed as far as they go, the two types are `x ≡ 2` (expected) and `x ≡ 3` (found)",
-            "`returns`: as printed, the two types differ only where one has `x` (expected), right after `x`, and the other has `y` (found)",
-            "`returns`: expected type `Runs x y`, but this has type `Runs x z`",
-            "`returns`: expected type `x ◌≡◌ y`, but this has type `mathlib.Core.Path.◌≡◌ x z`",
-            "`returns`: computed as far as they go, the two types differ only where one has `Nat.◌<◌` (expected) and the other has `Nat.◌≤◌` (found)",
-        ];
-        for text in texts {
-            assert_eq!(error(text), Kind::Fact, "{text}");
-        }
+        let text = mismatched(
+            "lt nought c.args.x ≡ true",
+            "Row.get 2 T2.locals ≡ true",
+            "lt",
+            "le",
+        );
+        assert_eq!(kind(&text), Kind::Fact);
+        let text = mismatched(
+            "P.View.Asks-returns c",
+            "record {puts : Puts a; most : b ≤ c}",
+            "not a",
+            "a",
+        );
+        assert_eq!(kind(&text), Kind::Fact);
+        let text = mismatched(
+            "P.Reads.Post c.κs",
+            "mathlib.Core.Path.◌≡◌ 2 (first_of ts)",
+            "3",
+            "2",
+        );
+        assert_eq!(kind(&text), Kind::Fact);
+        let text = mismatched(
+            "(P.Tie.the-claims).6 ([], tt)",
+            "Runs 6543 x",
+            "(P.Tie.the-claims)",
+            "Runs",
+        );
+        assert_eq!(kind(&text), Kind::Fact);
+        let text = mismatched(
+            "Nat.◌<◌ (f 9) x",
+            "Nat.◌≤◌ (suc (f 8)) x",
+            "Nat.◌<◌",
+            "Nat.◌≤◌",
+        );
+        let text = format!("{text} computed as far as they go, the two types differ only where one has `9` (expected) and the other has `8` (found)");
+        assert_eq!(kind(&text), Kind::Fact);
+        let text = mismatched(
+            "f (g x) ≡ y",
+            "f (each (λ i. as_row…[1823 bytes]…s ∷ []))",
+            "g x",
+            "each",
+        );
+        assert_eq!(kind(&text), Kind::Fact);
     }
 
     #[test]
-    fn cut_off() {
-        let begun = |length: usize, text: &str| kind(&shown(&"p".repeat(SHOWN - 9 - length), text));
-        let text = "`omega`: the goal does not follow from what it read. All of that holds";
-        assert_eq!(begun(16, text), Kind::Fact);
-        assert_eq!(begun(15, text), Kind::Unknown);
-        let text = "as printed, the two types differ only where one has `c.before.x` (expected) and the other";
-        assert_eq!(begun(30, text), Kind::Fact);
-        assert_eq!(begun(64, text), Kind::Unknown);
+    fn begun() {
+        let texts = [
+            "./proofs/KktIdx/new/Answers.antt:18:22: error: `returns`: `omega`: the goal does not follow from what it read. All of that holds, and the goal fails, at `c.args",
+            "note: src/lib.rt:154:1: it is not proved that what the function ensures holds when it returns (`returns-in-Both`)",
+        ];
+        for text in texts {
+            assert_eq!(shown(text), Kind::Fact, "{text}");
+        }
+        let texts = [
+            "./proofs/dc/lay_counted/Answers.antt:27:13: error: `returns`: as printed, the two types differ only where one has `c.args.cap` (expected), right after `mathlib.",
+            "./proofs/active_of/Answers.antt:14:7: error: `returns`: give a proof of that as the last argument, `rw L t` (`rw L ?` shows it as a hole's goal), or add what is ",
+            "./proofs/put_short/Answers.antt:36:113: error: `loop-i-preserved`: as printed, the two sides first differ where one has `Rattle.kkt.specs.Walks.item_in (borrow.",
+            "./proofs/unknown/Answers.antt:20:31: error: `returns-then-not-in_range`: expected type `4 ≡ unknown_number c.args.base`, but this has type `3 ≡ unknown_number (",
+            "./proofs/kkt/Answers.antt:20:31: error: `returns-then-not-in_range-clause-value`: `omega`: the part `.0` of the goal does not follow from wha",
+        ];
+        for text in texts {
+            assert_eq!(shown(text), Kind::CutOff, "{text}");
+        }
+        let text = "./proofs/f/Answers.antt:1:2: error: `returns`: record `Lts.Else2` has no field `if-room-lt1` (nearest: .if-room-lt0)";
+        assert_eq!(shown(text), Kind::Misfit);
     }
 
     #[test]
@@ -472,36 +527,57 @@ mod tests {
             "`returns`: record `Lts.Else2` has no field `if-room-lt1` (nearest: .if-room-lt0)",
             "`returns`: `goal.returns-2`: module `Rattle.a.proofs.f.Goals` has no `returns-2` that can be named from here",
             "`f-spec`: this call writes 1 explicit argument more than `spec` takes",
-            "`returns`: as printed, the two types differ only where one has `◌<◌` (expected) and the other has `◌≤◌` (found)",
-            "`returns`: as printed, the two types differ only where one has `c.before.args` (expected) and the other has `c.args` (found)",
             "`returns`: expected type `x ◌<◌ y`, but this has type `x ◌≤◌ y`",
-            "`returns`: expected type `P.Tie.Need-returns-2`, but this has type `P.Tie.Need-returns-3`",
         ];
         for text in texts {
-            assert_eq!(error(text), Kind::Misfit, "{text}");
+            assert_eq!(kind(text), Kind::Misfit, "{text}");
         }
+        let text = mismatched(
+            "Nat.◌<◌ (?0 c) (?1 c)",
+            "Nat.◌≤◌ (get 5) (get 4)",
+            "Nat.◌<◌",
+            "Nat.◌≤◌",
+        );
+        assert_eq!(kind(&text), Kind::Misfit);
+        let text = mismatched("P.Tie.Need-returns-2", "P.Tie.Need-returns-3", "2", "3");
+        assert_eq!(kind(&text), Kind::Misfit);
+        let text = mismatched("P.View.Asks-returns c", "P.View.Asks-returns-2 c", "2", "3");
+        assert_eq!(kind(&text), Kind::Misfit);
+        let text = mismatched(
+            "f c.before.args ≡ x",
+            "f c.args ≡ x",
+            "c.before.args",
+            "c.args",
+        );
+        assert_eq!(kind(&text), Kind::Misfit);
     }
 
     #[test]
     fn unknowns() {
-        let texts = [
-            "`returns`: something else is wrong",
-            "`returns`: expected type `Float`, but this has type `x ◌≡◌ y`",
-        ];
-        for text in texts {
-            assert_eq!(error(text), Kind::Unknown, "{text}");
-        }
-        assert_eq!(kind("note: src/lib.rt:1:1: a thing to know"), Kind::Unknown);
-        assert_eq!(kind("src/lib.rt:1:1: no error"), Kind::Unknown);
+        assert_eq!(kind("`returns`: something else is wrong"), Kind::Unknown);
+        assert_eq!(
+            kind(&mismatched("Float", "x ≡ y", "Float", "x")),
+            Kind::Unknown
+        );
+        assert_eq!(
+            super::kind("src/lib.rt:1:1: no error", false, &HashSet::new()),
+            Kind::Unknown
+        );
+        let text = "note: src/lib.rt:1:1: a thing to know";
+        assert_eq!(super::kind(text, false, &HashSet::new()), Kind::Unknown);
     }
 
     #[test]
-    fn read_by_hand() {
+    fn recorded() {
         let read = "# a remark\nkkt/other: `law`: expected type `A`\n";
         let text = "./proofs/Laws.antt:1:2: error: `law`: expected type `A`";
         assert!(was_read("kkt/other", text, read));
         assert!(!was_read("kkt/another", text, read));
-        assert!(!was_read("kkt/other", "./proofs/Laws.antt:1:2: error: `law`: expected type `B`", read));
+        assert!(!was_read(
+            "kkt/other",
+            "./proofs/Laws.antt:1:2: error: `law`: expected type `B`",
+            read
+        ));
         assert!(!was_read("kkt/other", "`law`: expected type `A`", read));
     }
 

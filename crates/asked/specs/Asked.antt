@@ -1,6 +1,6 @@
 -- What is asked for by number: a number past the last stands for something that is not served.
 -- Main definitions: `parameter_asked`, `operand_asked`, `mode_asked`, `scaling`. Assumes nothing.
-use Rattle.std.specs.Prelude.{ℕ, true, not, List, [], ◌∷◌, Float}
+use Rattle.std.specs.Prelude.{ℕ, true, not, List, [], ◌∷◌, Option, Some, None, Float}
 use Rattle.float64.specs.Values.{base_low, base_high, in_range}
 use Rattle.sequence.specs.Answers.{Filled, filled, test, first_of}
 use Rattle.interface.specs.Scales.{scale_call}
@@ -11,24 +11,18 @@ use Rattle.interface.specs.declared.Parameter.{Parameter}
 use Rattle.interface.specs.declared.Parameter.TheVariants.{Demand}
 use Rattle.interface.specs.declared.Mode.{Mode}
 use Rattle.interface.specs.declared.Mode.TheVariants.{Auto}
-use Rattle.interface.specs.declared.OperandCode.{OperandCode}
-use Rattle.interface.specs.declared.OperandCode.TheVariants as operands
-use Rattle.interface.specs.declared.ParameterCode.{ParameterCode}
-use Rattle.interface.specs.declared.ParameterCode.TheVariants as parameters
-use Rattle.interface.specs.declared.ModeCode.{ModeCode}
-use Rattle.interface.specs.declared.ModeCode.TheVariants as modes
 
-abbrev pub parameter_asked : ParameterCode → Parameter
-parameter_asked (parameters.Known p) = p
-parameter_asked parameters.Unknown = Demand Reactive
+abbrev pub parameter_asked : Option Parameter → Parameter
+parameter_asked (Some p) = p
+parameter_asked None = Demand Reactive
 
-abbrev pub operand_asked : OperandCode → Operand
-operand_asked (operands.Known o) = o
-operand_asked operands.Unknown = Price Reactive
+abbrev pub operand_asked : Option Operand → Operand
+operand_asked (Some o) = o
+operand_asked None = Price Reactive
 
-abbrev pub mode_asked : ModeCode → Mode
-mode_asked (modes.Known m) = m
-mode_asked modes.Unknown = Auto
+abbrev pub mode_asked : Option Mode → Mode
+mode_asked (Some m) = m
+mode_asked None = Auto
 
 -- ---- the unit scale by numbers
 
@@ -39,10 +33,10 @@ unknown_number base = first_of (test 3 (not (in_range base_low base_high base)) 
 abbrev pub unknown_scale : Float → List Float → Filled Float
 unknown_scale base sheet = filled (unknown_number base) 0 sheet
 
-abbrev pub known_scale : Operand → ParameterCode → Float → List Float → Filled Float
-known_scale o (parameters.Known p) base sheet = scale_call o p base sheet
-known_scale o parameters.Unknown base sheet = unknown_scale base sheet
+abbrev pub known_scale : Operand → Option Parameter → Float → List Float → Filled Float
+known_scale o (Some p) base sheet = scale_call o p base sheet
+known_scale o None base sheet = unknown_scale base sheet
 
-abbrev pub scaling : OperandCode → ParameterCode → Float → List Float → Filled Float
-scaling (operands.Known o) p base sheet = known_scale o p base sheet
-scaling operands.Unknown p base sheet = unknown_scale base sheet
+abbrev pub scaling : Option Operand → Option Parameter → Float → List Float → Filled Float
+scaling (Some o) p base sheet = known_scale o p base sheet
+scaling None p base sheet = unknown_scale base sheet

@@ -6,7 +6,7 @@ use Rattle.std.specs.Float.{binary64}
 use Rattle.std.specs.Float.Ieee.{neg, div, eq, to_bits}
 use Rattle.float64.specs.Values.{nought, whole, tolerance}
 use Rattle.sequence.specs.Lists.{each, when}
-use Rattle.sequence.specs.Sheets.{Triplet}
+use Rattle.sequence.specs.declared.Triplet.{Triplet}
 use Rattle.network.specs.declared.Counts.{Counts}
 use Rattle.network.specs.Layout.{counts_of, reading}
 use Rattle.model.specs.Rows.{row_limits, is_equality}

@@ -11,7 +11,7 @@ use Rattle.sequence.specs.Lists.{turns}
 use Rattle.network.specs.declared.Part.TheVariants.{BrFrom, BrTo}
 use Rattle.network.specs.declared.Field.TheVariants.{ShuntConductance, HvdcInjection}
 use Rattle.network.specs.Layout.{wire, reading}
-use Rattle.susceptance.specs.Susceptance.{susceptance, touched}
+use Rattle.susceptance.specs.Susceptance.{susceptance}
 use Rattle.model.specs.Quantities.{flow_offset, phase_turn, phase, network_at, fixed_at}
 use Rattle.kkt_sums.proofs.Sums.{balance_is, untouched}
 use Rattle.books.specs.Forms.{Place, Form, Alike, plain, value_of}

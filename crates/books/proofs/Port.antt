@@ -10,7 +10,6 @@ use lib.Ieee.{Float, eq}
 use borrow.Author.Tests.{eq-eqb, ne_eqb, eqb-true}
 use Rattle.float64.specs.Values.{nought}
 use Rattle.sequence.specs.Lists.{each, when}
-use Rattle.sequence.specs.Sheets.{Triplet, triplet, emit}
 use Rattle.sequence.specs.Facts.{All}
 use Rattle.sequence.specs.Facts.All.{done, ◌&◌}
 use Rattle.sequence.proofs.Facts.{all_append, all_each, all_when}
@@ -26,18 +25,13 @@ use Rattle.kkt.specs.declared.Side.TheVariants.{Above, Below, Level}
 use Rattle.kkt.specs.Slots.{Place, Slot, block_slots, columns, slots, row_slots, side_slots, diagonal, reference_slot, start_of}
 use Rattle.kkt.specs.Matrix.{emitted, kkt_matrix_list}
 use Rattle.kkt_laws.proofs.Range
-use Rattle.change_table.specs.Table.{Cell, same_cell, values_at}
+use Rattle.change_table.specs.Table.{same_cell, values_at}
+use Rattle.change_table.proofs.Frame.{at_head}
 use Rattle.books.specs.Matrix.{Inside}
 use Rattle.books.proofs.Cells.{values, both, hit, held, Key, Group, group, Own, Valid, joined, one_rank}
 use Rattle.books.proofs.Setting.{Setting, R, S, port_site, port_point}
 
 -- ---- flat places
-
-at_head : (t : Bool) (r k : ℕ) (x : Float) (ts : List Triplet) (a : Cell)
-    → values_at (when t (triplet r k x ∷ []) ++ ts) a ≡ when t (when (same_cell (r, k) a) (x ∷ [])) ++ values_at ts a
-unfolding values_at when
-at_head true r k x ts a = refl
-at_head false r k x ts a = refl
 
 one_turn : (a b : Bool) (x : Float) (l : List Float) → b ≡ eq x nought → when (not b) (when a (x ∷ [])) ++ l ≡ held a x l
 unfolding when
@@ -98,7 +92,7 @@ module _ (z : Setting) where
 
   slots_at : (a b : Place) → In c p lines a → In c p lines b → {l : List Slot} → All (Range.Placed (port_site z)) l
       → values_at (emitted (block_start c p lines) (R z) (S z) l) (at c p lines a, at c p lines b) ≡ values (port_point z) a b l
-  unfolding emitted emit values values_at linear_start
+  unfolding emitted values values_at linear_start
   slots_at a b ha hb done = refl
   slots_at a b ha hb (◌&◌ {x = x} {xs = xs} h hs) =
       at_head (not (eq (port_point z x).value nought)) (at c p lines x.row) (at c p lines x.col) (port_point z x).value (emitted (block_start c p lines) (R z) (S z) xs) (at c p lines a, at c p lines b)

@@ -3,7 +3,7 @@
 use mathlib.Core.Path.{◌≡◌, refl, sym, ap, ap₂, ◌∙◌}
 use mathlib.Core.Bool.{Bool, true, false, cond, ◌&&◌}
 use mathlib.Mathlib.Algebra.Ring.Defs.{CommRing}
-use Prim.Native.Nat.{ℕ, zero, ◌+◌ as ◌plus◌, ◌<◌}
+use Prim.Native.Nat.{ℕ, ◌+◌ as ◌plus◌, ◌<◌}
 use native.Mathlib.Omega.{arith}
 use lib.Dec.{eqb, lit<}
 use borrow.Author.Tests.{ne_eqb}

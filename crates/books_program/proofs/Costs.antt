@@ -11,7 +11,8 @@ use lib.Ieee.{Float, nan, binary64, add, eq}
 use borrow.Author.Tests.{eq-eqb, ne_eqb}
 use Rattle.float64.specs.Values.{nought, one, whole}
 use Rattle.sequence.specs.Lists.{each, when}
-use Rattle.sequence.specs.Sheets.{Triplet, triplet, emit}
+use Rattle.sequence.specs.declared.Triplet.{Triplet}
+use Rattle.sequence.specs.Sheets.{item, emit}
 use Rattle.sequence.proofs.Lists.{map_at}
 use Rattle.network.specs.declared.Counts.{Counts}
 use Rattle.network.specs.declared.Part.TheVariants.{Segments}
@@ -188,11 +189,11 @@ unfolding cell_values
 cells_append v a b [] m = refl
 cells_append v a b (x ∷ l) m = rw (cells_append v a b l m) (simp append_assoc)
 
-emit_at : (t : Bool) (i j : ℕ) (v : Float) (x : Cell) → values_at (when t (triplet i j v ∷ [])) x ≡ when (same_cell (i, j) x) (when t (v ∷ [])) ++ []
-unfolding values_at when
+emit_at : (t : Bool) (i j : ℕ) (v : Float) (x : Cell) → values_at (emit (item t i j v)) x ≡ when (same_cell (i, j) x) (when t (v ∷ [])) ++ []
+unfolding values_at emit when
 emit_at t i j v x = go t (same_cell (i, j) x) refl
   where
-    go : (t b : Bool) → same_cell (i, j) x ≡ b → values_at (when t (triplet i j v ∷ [])) x ≡ when b (when t (v ∷ [])) ++ []
+    go : (t b : Bool) → same_cell (i, j) x ≡ b → values_at (emit (item t i j v)) x ≡ when b (when t (v ∷ [])) ++ []
     go true true e = rw e
     go true false e = rw e
     go false true e = refl
@@ -217,7 +218,7 @@ module _ (c : Counts) (w : List ℕ) (r : List Float) (ti : List ℕ) (tc : List
     given l' = cell_values (constant c w r ti tc) l' (variable c w r ti tc k i) (variable c w r ti tc l j)
 
     curve_at : (m : ℕ) → m < c.generators → values_at (curve m) cell ≡ given (hessian_entries (hessian (site c w r ti tc) m))
-    unfolding emit cell_values hessian_entries
+    unfolding cell_values hessian_entries
     curve_at m g =
         emit_at _ (column_start c (active_of c w r) Pg + m) (column_start c (active_of c w r) Pg + m) _ cell
         ∙ rw (at_place k m i g hi pi, at_place l m j g hj pj)

@@ -11,14 +11,14 @@ use lib.ListN.{get_or}
 use borrow.Author.Tests.{eq-eqb, ne_eqb, eqb-true}
 use Rattle.float64.specs.Values.{nought}
 use Rattle.sequence.specs.Lists.{each, when}
-use Rattle.sequence.specs.Sheets.{Triplet, triplet, emit}
 use Rattle.sequence.specs.Facts.{All}
 use Rattle.sequence.specs.Facts.All.{done, ◌&◌}
 use Rattle.network.specs.declared.Counts.{Counts}
 use Rattle.network.specs.declared.Field.{Field}
 use Rattle.solution.specs.declared.Entry.{Entry}
 use Rattle.snapping.specs.Expr.{Expr, eval}
-use Rattle.change_table.specs.Table.{Cell, same_cell, values_at}
+use Rattle.change_table.specs.Table.{values_at}
+use Rattle.change_table.proofs.Frame.{at_head}
 use Rattle.opf_layout.specs.declared.Active.{Active}
 use Rattle.opf_layout.specs.declared.OpfColumn.{OpfColumn}
 use Rattle.opf_layout.specs.declared.OpfColumn.TheVariants.{Va}
@@ -119,12 +119,6 @@ module _ (c : Counts) (a : Active) where
   Inside x = (x.row.1 < row_size c a x.row.0) × (x.col.1 < column_size c a x.col.0)
 
   module _ (R : Field → ℕ → Float) (S : Entry → ℕ → Float) where
-    at_head : (t : Bool) (i j : ℕ) (v : Float) (ts : List Triplet) (x : Cell)
-        → values_at (when t (triplet i j v ∷ []) ++ ts) x ≡ when t (when (same_cell (i, j) x) (v ∷ [])) ++ values_at ts x
-    unfolding values_at when
-    at_head true i j v ts x = refl
-    at_head false i j v ts x = refl
-
     one_turn : (t p q : Bool) (k : OpfColumn) (j : ℕ) (x : Term) (m : List Term) → (eqb (column_rank x.0) (column_rank k) && eqb x.1 j) ≡ q → not (eq (eval R S x.2) nought) ≡ t
         → when t (when (p && q) (eval R S x.2 ∷ [])) ++ at_column (eval R S) k j m ≡ at_column (eval R S) k j (when p (x ∷ []) ++ m)
     unfolding at_column when
@@ -140,7 +134,7 @@ module _ (c : Counts) (a : Active) where
 
     pub a_values : (p : OpfRow) (i : ℕ) (k : OpfColumn) (j : ℕ) → i < row_size c a p → j < column_size c a k → {l : List Coefficient} → All Inside l
         → values_at (triplets c a R S l) (row_start c a p + i, column_start c a k + j) ≡ at_column (eval R S) k j (entry_in_row p i l)
-    unfolding triplets_by emit entry_in_row at_column values_at
+    unfolding triplets_by entry_in_row at_column values_at
     a_values p i k j hi hj done = refl
     a_values p i k j hi hj (◌&◌ {x = x} {xs = xs} h hs) =
         at_head (not (eq (eval R S x.what) nought)) (row_start c a x.row.0 + x.row.1) (column_start c a x.col.0 + x.col.1) (eval R S x.what)

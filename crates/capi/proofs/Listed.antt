@@ -7,7 +7,8 @@ use native.Mathlib.Omega.{arith}
 use lib.ListN.{length}
 use lib.Ieee.{Float}
 use Rattle.sequence.specs.Answers.{test, first_of, marked}
-use Rattle.sequence.specs.Sheets.{Triplet, laid, short_list}
+use Rattle.sequence.specs.declared.Triplet.{Triplet}
+use Rattle.sequence.specs.Sheets.{laid, short_list}
 use Rattle.words.specs.Words.{words_of, doubles_of}
 use Rattle.network.specs.Numbers.{Network, network_tests, sizes_hold}
 use Rattle.susceptance.specs.Susceptance.{susceptance_coo}

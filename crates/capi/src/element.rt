@@ -3,30 +3,25 @@ ghost use Rattle.std.specs.Prelude.{◌≡◌, true, ◌&&◌, length};
 ghost use Rattle.std.specs.Float.{binary64};
 ghost use Rattle.std.specs.Float.Ieee.{of_bits};
 ghost use Rattle.words.specs.Words.{doubles_of};
-ghost use Rattle.network.specs.Numbers.{lent};
+ghost use Rattle.network.specs.Sites.{network_in};
 ghost use Rattle.model.specs.Calls.{shed_cap_call, flow_offset_call, generator_cost_call, evaluate_call};
 ghost use Rattle.decoding.specs.Exports.{out, whole, all_whole, decoded, filled_out};
 ghost use Rattle.decoding.specs.Decoding.{Cells};
 
-use decoding::answer::{answered, cells_for};
-use decoding::decode::{take_doubles, take_network};
+use decoding::Arrays;
+use decoding::answer::{answered, cells_for, pack};
+use decoding::decode::take_doubles;
 use model::dc::{current_flow_offset, evaluate, generator_cost, shed_cap};
+use network::Lent;
+use sequence::Refusal;
 use words::number;
 
-fn shed_cap_out(
-    wiring: &[u32],
-    readings: &[f64],
-    term_index: &[u32],
-    term_coefficient: &[f64],
-    bus: usize,
-    cells: &mut [f64],
-    sheet: &mut [u8],
-) -> u64
+fn shed_cap_out(lent: Lent<'_>, bus: usize, cells: &mut [f64], sheet: &mut [u8]) -> u64
     requires { Cells 1 (length sheet.old) (length cells.old) }
-    ensures { out result sheet.new ≡ filled_out true (shed_cap_call (lent wiring.entry readings.entry term_index.entry term_coefficient.entry) bus (doubles_of sheet.old)) sheet.old }
+    ensures { out result sheet.new ≡ filled_out true (shed_cap_call (network_in lent.entry) bus (doubles_of sheet.old)) sheet.old }
 {
-    let a = shed_cap(wiring, readings, term_index, term_coefficient, bus, cells);
-    answered(a.number, a.count, cells, sheet)
+    let answer = shed_cap(lent, bus, cells);
+    answered(answer, cells, sheet)
 }
 
 #[unsafe(no_mangle)]
@@ -40,61 +35,26 @@ pub extern "C" fn capi_shed_cap(
 ) -> u64
     ensures { out result sheet.new ≡ filled_out (all_whole wiring.entry readings.entry term_index.entry term_coefficient.entry) (shed_cap_call (decoded wiring.entry readings.entry term_index.entry term_coefficient.entry) bus (doubles_of sheet.old)) sheet.old }
 {
-    let mut w = [0u32; 3033];
-    let mut r = [0.0; 8065];
-    let mut i = [0u32; 1024];
-    let mut k = [0.0; 1024];
-    let l = take_network(
-        wiring,
-        readings,
-        term_index,
-        term_coefficient,
-        &mut w,
-        &mut r,
-        &mut i,
-        &mut k,
-    );
-    if !l.ok {
-        return 1;
-    }
-    let a = l.wiring;
-    let b = l.readings;
-    let c = l.indexes;
-    let d = l.coefficients;
+    let mut arrays = Arrays::new();
+    let Some(lent) = arrays.read(wiring, readings, term_index, term_coefficient) else {
+        return pack(Err(Refusal::Size));
+    };
     let mut cells = [0.0; 1];
     let n = cells_for(sheet.len(), 1);
-    shed_cap_out(
-        &w[..a],
-        &r[..b],
-        &i[..c],
-        &k[..d],
-        bus,
-        &mut cells[..n],
-        sheet,
-    )
+    shed_cap_out(lent, bus, &mut cells[..n], sheet)
 }
 
 fn current_flow_offset_out(
-    wiring: &[u32],
-    readings: &[f64],
-    term_index: &[u32],
-    term_coefficient: &[f64],
+    lent: Lent<'_>,
     branch: usize,
     cells: &mut [f64],
     sheet: &mut [u8],
 ) -> u64
     requires { Cells 1 (length sheet.old) (length cells.old) }
-    ensures { out result sheet.new ≡ filled_out true (flow_offset_call (lent wiring.entry readings.entry term_index.entry term_coefficient.entry) branch (doubles_of sheet.old)) sheet.old }
+    ensures { out result sheet.new ≡ filled_out true (flow_offset_call (network_in lent.entry) branch (doubles_of sheet.old)) sheet.old }
 {
-    let a = current_flow_offset(
-        wiring,
-        readings,
-        term_index,
-        term_coefficient,
-        branch,
-        cells,
-    );
-    answered(a.number, a.count, cells, sheet)
+    let answer = current_flow_offset(lent, branch, cells);
+    answered(answer, cells, sheet)
 }
 
 #[unsafe(no_mangle)]
@@ -108,63 +68,27 @@ pub extern "C" fn capi_current_flow_offset(
 ) -> u64
     ensures { out result sheet.new ≡ filled_out (all_whole wiring.entry readings.entry term_index.entry term_coefficient.entry) (flow_offset_call (decoded wiring.entry readings.entry term_index.entry term_coefficient.entry) branch (doubles_of sheet.old)) sheet.old }
 {
-    let mut w = [0u32; 3033];
-    let mut r = [0.0; 8065];
-    let mut i = [0u32; 1024];
-    let mut k = [0.0; 1024];
-    let l = take_network(
-        wiring,
-        readings,
-        term_index,
-        term_coefficient,
-        &mut w,
-        &mut r,
-        &mut i,
-        &mut k,
-    );
-    if !l.ok {
-        return 1;
-    }
-    let a = l.wiring;
-    let b = l.readings;
-    let c = l.indexes;
-    let d = l.coefficients;
+    let mut arrays = Arrays::new();
+    let Some(lent) = arrays.read(wiring, readings, term_index, term_coefficient) else {
+        return pack(Err(Refusal::Size));
+    };
     let mut cells = [0.0; 1];
     let n = cells_for(sheet.len(), 1);
-    current_flow_offset_out(
-        &w[..a],
-        &r[..b],
-        &i[..c],
-        &k[..d],
-        branch,
-        &mut cells[..n],
-        sheet,
-    )
+    current_flow_offset_out(lent, branch, &mut cells[..n], sheet)
 }
 
 fn generator_cost_out(
-    wiring: &[u32],
-    readings: &[f64],
-    term_index: &[u32],
-    term_coefficient: &[f64],
+    lent: Lent<'_>,
     generator: usize,
     power: f64,
     cells: &mut [f64],
     sheet: &mut [u8],
 ) -> u64
     requires { Cells 1 (length sheet.old) (length cells.old) }
-    ensures { out result sheet.new ≡ filled_out true (generator_cost_call (lent wiring.entry readings.entry term_index.entry term_coefficient.entry) generator power (doubles_of sheet.old)) sheet.old }
+    ensures { out result sheet.new ≡ filled_out true (generator_cost_call (network_in lent.entry) generator power (doubles_of sheet.old)) sheet.old }
 {
-    let a = generator_cost(
-        wiring,
-        readings,
-        term_index,
-        term_coefficient,
-        generator,
-        power,
-        cells,
-    );
-    answered(a.number, a.count, cells, sheet)
+    let answer = generator_cost(lent, generator, power, cells);
+    answered(answer, cells, sheet)
 }
 
 #[unsafe(no_mangle)]
@@ -179,47 +103,17 @@ pub extern "C" fn capi_generator_cost(
 ) -> u64
     ensures { out result sheet.new ≡ filled_out (all_whole wiring.entry readings.entry term_index.entry term_coefficient.entry) (generator_cost_call (decoded wiring.entry readings.entry term_index.entry term_coefficient.entry) generator (of_bits binary64 power) (doubles_of sheet.old)) sheet.old }
 {
-    let mut w = [0u32; 3033];
-    let mut r = [0.0; 8065];
-    let mut i = [0u32; 1024];
-    let mut k = [0.0; 1024];
-    let l = take_network(
-        wiring,
-        readings,
-        term_index,
-        term_coefficient,
-        &mut w,
-        &mut r,
-        &mut i,
-        &mut k,
-    );
-    if !l.ok {
-        return 1;
-    }
-    let a = l.wiring;
-    let b = l.readings;
-    let c = l.indexes;
-    let d = l.coefficients;
-    let p = number(power);
+    let mut arrays = Arrays::new();
+    let Some(lent) = arrays.read(wiring, readings, term_index, term_coefficient) else {
+        return pack(Err(Refusal::Size));
+    };
     let mut cells = [0.0; 1];
     let n = cells_for(sheet.len(), 1);
-    generator_cost_out(
-        &w[..a],
-        &r[..b],
-        &i[..c],
-        &k[..d],
-        generator,
-        p,
-        &mut cells[..n],
-        sheet,
-    )
+    generator_cost_out(lent, generator, number(power), &mut cells[..n], sheet)
 }
 
 fn evaluate_out(
-    wiring: &[u32],
-    readings: &[f64],
-    term_index: &[u32],
-    term_coefficient: &[f64],
+    lent: Lent<'_>,
     row: usize,
     f: &[f64],
     pg: &[f64],
@@ -227,19 +121,10 @@ fn evaluate_out(
     sheet: &mut [u8],
 ) -> u64
     requires { Cells 1 (length sheet.old) (length cells.old) }
-    ensures { out result sheet.new ≡ filled_out true (evaluate_call (lent wiring.entry readings.entry term_index.entry term_coefficient.entry) row f.now pg.now (doubles_of sheet.old)) sheet.old }
+    ensures { out result sheet.new ≡ filled_out true (evaluate_call (network_in lent.entry) row f.now pg.now (doubles_of sheet.old)) sheet.old }
 {
-    let a = evaluate(
-        wiring,
-        readings,
-        term_index,
-        term_coefficient,
-        row,
-        f,
-        pg,
-        cells,
-    );
-    answered(a.number, a.count, cells, sheet)
+    let answer = evaluate(lent, row, f, pg, cells);
+    answered(answer, cells, sheet)
 }
 
 #[unsafe(no_mangle)]
@@ -255,49 +140,25 @@ pub extern "C" fn capi_evaluate(
 ) -> u64
     ensures { out result sheet.new ≡ filled_out (all_whole wiring.entry readings.entry term_index.entry term_coefficient.entry && (whole 8 f.now && whole 8 pg.now)) (evaluate_call (decoded wiring.entry readings.entry term_index.entry term_coefficient.entry) row (doubles_of f.now) (doubles_of pg.now) (doubles_of sheet.old)) sheet.old }
 {
-    let mut w = [0u32; 3033];
-    let mut r = [0.0; 8065];
-    let mut i = [0u32; 1024];
-    let mut k = [0.0; 1024];
-    let l = take_network(
-        wiring,
-        readings,
-        term_index,
-        term_coefficient,
-        &mut w,
-        &mut r,
-        &mut i,
-        &mut k,
-    );
-    if !l.ok {
-        return 1;
-    }
-    let a = l.wiring;
-    let b = l.readings;
-    let c = l.indexes;
-    let d = l.coefficients;
+    let mut arrays = Arrays::new();
+    let Some(lent) = arrays.read(wiring, readings, term_index, term_coefficient) else {
+        return pack(Err(Refusal::Size));
+    };
     let mut fs = [0.0; 512];
-    let flows = take_doubles(f, &mut fs);
-    if !flows.ok {
-        return 1;
-    }
+    let Some(flows) = take_doubles(f, &mut fs) else {
+        return pack(Err(Refusal::Size));
+    };
     let mut ps = [0.0; 256];
-    let powers = take_doubles(pg, &mut ps);
-    if !powers.ok {
-        return 1;
-    }
-    let x = flows.count;
-    let y = powers.count;
+    let Some(powers) = take_doubles(pg, &mut ps) else {
+        return pack(Err(Refusal::Size));
+    };
     let mut cells = [0.0; 1];
     let n = cells_for(sheet.len(), 1);
     evaluate_out(
-        &w[..a],
-        &r[..b],
-        &i[..c],
-        &k[..d],
+        lent,
         row,
-        &fs[..x],
-        &ps[..y],
+        &fs[..flows],
+        &ps[..powers],
         &mut cells[..n],
         sheet,
     )

@@ -1,17 +1,24 @@
 // The number of a network, and the kind of a row.
-ghost use Rattle.std.specs.Prelude.{◌≡◌, cond, ◌<◌};
-ghost use Rattle.network.specs.Numbers.{lent, network_number};
+ghost use Rattle.std.specs.Prelude.{◌≡◌, cond};
+ghost use Rattle.network.specs.Numbers.{network_number};
+ghost use Rattle.network.specs.Sites.{network_in};
 ghost use Rattle.model.specs.Calls.{row_kind_call};
 ghost use Rattle.decoding.specs.Exports.{packed, all_whole, decoded};
 
-use decoding::decode::take_network;
+use decoding::Arrays;
+use decoding::answer::pack;
 use model::dc::row_kind;
-use network::check::network_number;
+use network::Lent;
+use sequence::Refusal;
 
-fn wide(x: u32) -> u64
-    ensures { (result ≡ x) × (result < 0x1_0000_0000) }
+// A network's number, in one word.
+fn network_number_out(lent: Lent<'_>) -> u64
+    ensures { result ≡ network_number (network_in lent.entry) }
 {
-    x as u64
+    match lent.accept() {
+        Ok(_) => 0,
+        Err(refusal) => refusal.number() as u64,
+    }
 }
 
 #[unsafe(no_mangle)]
@@ -23,41 +30,18 @@ pub extern "C" fn capi_network_number(
 ) -> u64
     ensures { result ≡ cond (all_whole wiring.entry readings.entry term_index.entry term_coefficient.entry) (network_number (decoded wiring.entry readings.entry term_index.entry term_coefficient.entry)) 1 }
 {
-    let mut w = [0u32; 3033];
-    let mut r = [0.0; 8065];
-    let mut i = [0u32; 1024];
-    let mut k = [0.0; 1024];
-    let l = take_network(
-        wiring,
-        readings,
-        term_index,
-        term_coefficient,
-        &mut w,
-        &mut r,
-        &mut i,
-        &mut k,
-    );
-    if !l.ok {
-        return 1;
-    }
-    let a = l.wiring;
-    let b = l.readings;
-    let c = l.indexes;
-    let d = l.coefficients;
-    wide(network_number(&w[..a], &r[..b], &i[..c], &k[..d]))
+    let mut arrays = Arrays::new();
+    let Some(lent) = arrays.read(wiring, readings, term_index, term_coefficient) else {
+        return pack(Err(Refusal::Size));
+    };
+    network_number_out(lent)
 }
 
-fn row_kind_out(
-    wiring: &[u32],
-    readings: &[f64],
-    term_index: &[u32],
-    term_coefficient: &[f64],
-    row: usize,
-) -> u64
-    ensures { result ≡ packed (row_kind_call (lent wiring.entry readings.entry term_index.entry term_coefficient.entry) row).number (row_kind_call (lent wiring.entry readings.entry term_index.entry term_coefficient.entry) row).kind }
+// A row's kind behind its number, in one word.
+fn row_kind_out(lent: Lent<'_>, row: usize) -> u64
+    ensures { result ≡ packed (row_kind_call (network_in lent.entry) row).number (row_kind_call (network_in lent.entry) row).kind }
 {
-    let a = row_kind(wiring, readings, term_index, term_coefficient, row);
-    wide(a.number) + 256 * wide(a.kind)
+    pack(row_kind(lent, row).map(|kind| kind.number() as usize))
 }
 
 #[unsafe(no_mangle)]
@@ -70,26 +54,9 @@ pub extern "C" fn capi_row_kind(
 ) -> u64
     ensures { result ≡ cond (all_whole wiring.entry readings.entry term_index.entry term_coefficient.entry) (packed (row_kind_call (decoded wiring.entry readings.entry term_index.entry term_coefficient.entry) row).number (row_kind_call (decoded wiring.entry readings.entry term_index.entry term_coefficient.entry) row).kind) 1 }
 {
-    let mut w = [0u32; 3033];
-    let mut r = [0.0; 8065];
-    let mut i = [0u32; 1024];
-    let mut k = [0.0; 1024];
-    let l = take_network(
-        wiring,
-        readings,
-        term_index,
-        term_coefficient,
-        &mut w,
-        &mut r,
-        &mut i,
-        &mut k,
-    );
-    if !l.ok {
-        return 1;
-    }
-    let a = l.wiring;
-    let b = l.readings;
-    let c = l.indexes;
-    let d = l.coefficients;
-    row_kind_out(&w[..a], &r[..b], &i[..c], &k[..d], row)
+    let mut arrays = Arrays::new();
+    let Some(lent) = arrays.read(wiring, readings, term_index, term_coefficient) else {
+        return pack(Err(Refusal::Size));
+    };
+    row_kind_out(lent, row)
 }

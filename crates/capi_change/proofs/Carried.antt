@@ -1,5 +1,5 @@
 -- A change on bytes: it goes by way of cells, on whose words its answer does not depend, or is refused at once.
--- Main results: `change_count`, `change_refused`, `change_taken`, `change_one`, `read_whole`. Assumes nothing.
+-- Main results: `change_count`, `change_refused`, `change_taken`, `change_one`, `packed_err`, `read_whole`. Assumes nothing.
 use mathlib.Core.Path.{◌≡◌, refl, sym, ap, ◌∙◌}
 use mathlib.Core.Bool.{Bool, true, false, ◌&&◌}
 use mathlib.Core.List.{List, [], ◌++◌, append-nil}
@@ -11,8 +11,12 @@ use lib.Seq.{take-length, drop-length}
 use lib.Ieee.{Float}
 use borrow.Author.Tests.{eqb-true, ltb-false, ne_eqb}
 use Rattle.sequence.specs.Lists.{front}
-use Rattle.sequence.specs.Answers.{Test, first_of, marked}
-use Rattle.sequence.specs.Sheets.{Triplet, rows_of, cols_of, values_of, room, short_list, laid}
+use Rattle.std.specs.Prelude.{Result, Ok, Err}
+use Rattle.std.specs.Result.{is_err}
+use Rattle.sequence.specs.declared.Refusal.{Refusal}
+use Rattle.sequence.specs.Answers.{Test, first_of, marked, number_of as answer_number, count_of as answer_count}
+use Rattle.sequence.specs.declared.Triplet.{Triplet}
+use Rattle.sequence.specs.Sheets.{rows_of, cols_of, values_of, room, short_list, laid}
 use Rattle.sequence.proofs.Lists.{and_left, and_right, made_length}
 use Rattle.sequence.proofs.Answers.{front_passed}
 use Rattle.sequence.proofs.Fronts.{take_front}
@@ -131,10 +135,8 @@ module _ (G : Given) (rule : Rule) (read : List Float) (h : Change) where
       refused_bytes z B = rw (ne_eqb n 0 z)
 
       -- refused: no byte moves
-      pub change_refused : (n ≡ 0 → ⊥) → {a : ℕ} → a ≡ n → (B : List ℕ) → leaves a B R C X ≡ told_bytes true (step G rule none (words read (words_of R) (words_of C) (doubles_of X)) h) B R C X
-      change_refused z {a} p B =
-          let w : a ≡ packed n 0 = omega arith in
-          ap (λ (x : ℕ). leaves x B R C X) w ∙ refused_bytes z B ∙ over B
+      pub change_refused : (n ≡ 0 → ⊥) → {a : ℕ} → a ≡ packed n 0 → (B : List ℕ) → leaves a B R C X ≡ told_bytes true (step G rule none (words read (words_of R) (words_of C) (doubles_of X)) h) B R C X
+      change_refused z {a} p B = ap (λ (x : ℕ). leaves x B R C X) p ∙ refused_bytes z B ∙ over B
 
       -- accepted: every reading's bytes, and the list's in front
       pub change_taken : n ≡ 0 → {a m : ℕ} {B' R' C' X' : List ℕ} (B : List ℕ) → B' ≡ front (double_bytes (take m W.readings)) B → m ≡ length W.readings → 8 * length W.readings ≡ length B
@@ -149,6 +151,12 @@ module _ (G : Given) (rule : Rule) (read : List Float) (h : Change) where
   pub change_one : (W : Words) → W.readings ≡ read → (ok : Bool) (B R C X : List ℕ) → ok && (sizes_hold N && solution_long N G.solution) ≡ false → leaves 1 B R C X ≡ told_bytes ok (step G rule none W h) B R C X
   unfolding step number_of
   change_one W q ok B R C X e = one_by ok _ _ _ W B R C X (λ o. rw q (size_fails N (solution_long N G.solution) (solution_holds false N G.solution) _ ok e o))
+
+-- ---- a refusal in one word
+
+pub packed_err : (a : Result ℕ Refusal) → is_err a ≡ true → packed (answer_number a) (answer_count a) ≡ packed (answer_number a) 0
+packed_err (Ok n) e = cc
+packed_err (Err r) e = refl
 
 -- ---- what was decoded
 

@@ -1,9 +1,9 @@
--- Change calls in turn, by the last one: what they have left and written so far. Main results: `begin`, `more`; `uneven`, `short_numbers`, `short_counts`, `done`. Assumes nothing.
+-- Change calls in turn, by the last one: what they have left and written so far. Main results: `begin`, `more`; `uneven`, `short`, `done`. Assumes nothing.
 use mathlib.Core.Path.{◌≡◌, refl, ap, ◌∙◌}
+use mathlib.Core.Logic.{◌⊎◌, inl, inr}
 use mathlib.Core.List.{List}
 use Prim.Native.Nat.{ℕ, suc, ◌+◌, ◌*◌, ◌/◌, ◌%◌, ◌≤◌, ◌<◌}
 use native.Mathlib.Numerals.{add-one}
-use native.Mathlib.Nat.{le_antisymm}
 use native.Mathlib.Omega.{arith}
 use lib.ListN.{length}
 use lib.Seq.{sets, length-sets}
@@ -68,13 +68,10 @@ module _ (F : Fed) (B : Bytes) where
     unfolding in_turn_number first_of
     uneven h = refused (rw (ne_eqb (length F.changes % 12) 0 h)) (λ e. absurd (omega arith))
 
-    pub short_numbers : length F.changes % 12 ≡ 0 → length ns / 4 < length F.changes / 12 → in_turn 7 B ns ks ≡ in_turn_call F B ns ks
+    pub short : length F.changes % 12 ≡ 0 → length ns / 4 < length F.changes / 12 ⊎ ((length F.changes / 12 ≤ length ns / 4) × (length ks / 4 < length F.changes / 12)) → in_turn 7 B ns ks ≡ in_turn_call F B ns ks
     unfolding in_turn_number first_of
-    short_numbers h l = refused (rw (eq-eqb (length F.changes % 12) 0 h, lt-ltb (length ns / 4) (length F.changes / 12) l)) (λ e. absurd (omega arith))
-
-    pub short_counts : length F.changes % 12 ≡ 0 → length F.changes / 12 ≤ length ns / 4 → length ks / 4 < length F.changes / 12 → in_turn 7 B ns ks ≡ in_turn_call F B ns ks
-    unfolding in_turn_number first_of
-    short_counts h n l =
+    short h (inl l) = refused (rw (eq-eqb (length F.changes % 12) 0 h, lt-ltb (length ns / 4) (length F.changes / 12) l)) (λ e. absurd (omega arith))
+    short h (inr (n, l)) =
         refused (rw (eq-eqb (length F.changes % 12) 0 h, le-ltb (length ns / 4) (length F.changes / 12) n, lt-ltb (length ks / 4) (length F.changes / 12) l)) (λ e. absurd (omega arith))
 
     passes : length F.changes % 12 ≡ 0 → length F.changes / 12 ≤ length ns / 4 → length F.changes / 12 ≤ length ks / 4 → in_turn_number F.changes ns ks ≡ 0
@@ -82,9 +79,7 @@ module _ (F : Fed) (B : Bytes) where
     passes h n k =
         rw (eq-eqb (length F.changes % 12) 0 h, le-ltb (length ns / 4) (length F.changes / 12) n, le-ltb (length ks / 4) (length F.changes / 12) k)
 
-    pub done : {n i : ℕ} {r x y z ns' ks' : List ℕ} → length F.changes % 12 ≡ 0 → length F.changes / 12 ≤ length ns / 4 → length F.changes / 12 ≤ length ks / 4
-        → n ≡ length F.changes / 12 → i ≤ n → n ≤ i → Calling ns ks i r x y z ns' ks' → in_turn 0 (leaves 0 r x y z) ns' ks' ≡ in_turn_call F B ns ks
+    pub done : {i : ℕ} {r x y z ns' ks' : List ℕ} → length F.changes % 12 ≡ 0 → length F.changes / 12 ≤ length ns / 4 → length F.changes / 12 ≤ length ks / 4
+        → i ≡ length F.changes / 12 → Calling ns ks i r x y z ns' ks' → in_turn 0 (leaves 0 r x y z) ns' ks' ≡ in_turn_call F B ns ks
     unfolding in_turn_call
-    done {n} {i} h a b e p q g =
-        let j : i ≡ length F.changes / 12 = le_antisymm p q ∙ e in
-        rw (passes h a b, g.readings, g.rows, g.cols, g.values, g.numbers, g.counts, j)
+    done h a b e g = rw (passes h a b, g.readings, g.rows, g.cols, g.values, g.numbers, g.counts, e)

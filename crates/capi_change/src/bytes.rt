@@ -8,8 +8,10 @@ ghost use Rattle.job_book.specs.Book.{change, given, words, step};
 ghost use Rattle.capi_change.specs.Told.{given_in, words_in, leaves, told_bytes};
 
 use change::change;
-use decoding::answer::{list_room, listed};
-use decoding::decode::{take_doubles, take_network};
+use decoding::Arrays;
+use decoding::answer::{list_room, listed, pack};
+use decoding::decode::take_doubles;
+use sequence::Refusal;
 use words::encode_doubles;
 
 // A decoded change, and what it leaves back into bytes.
@@ -19,9 +21,9 @@ fn change_out(
     term_index: &[u32],
     term_coefficient: &[f64],
     solution: &[f64],
-    r: &mut [u32],
-    c: &mut [u32],
-    v: &mut [f64],
+    row_cells: &mut [u32],
+    col_cells: &mut [u32],
+    value_cells: &mut [f64],
     head: u32,
     low: u32,
     high: u32,
@@ -30,29 +32,37 @@ fn change_out(
     cols: &mut [u8],
     values: &mut [u8],
 ) -> u64
-    requires list_cells { ListCells 27552 (length rows.old) (length cols.old) (length values.old) (length r.old) (length c.old) (length v.old) }
+    requires list_cells { ListCells 27552 (length rows.old) (length cols.old) (length values.old) (length row_cells.old) (length col_cells.old) (length value_cells.old) }
     requires readings_value { 8 * length readings.old ≡ length read.old }
     ensures { leaves result read.new rows.new cols.new values.new ≡ told_bytes true (step (given wiring.now term_index.now term_coefficient.now solution.now) first_place (λ W h. []) (words readings.old (words_of rows.old) (words_of cols.old) (doubles_of values.old)) (change head low high)) read.old rows.old cols.old values.old }
 {
-    let a = change(
+    let answer = change(
         wiring,
         readings,
         term_index,
         term_coefficient,
         solution,
-        r,
-        c,
-        v,
+        row_cells,
+        col_cells,
+        value_cells,
         head,
         low,
         high,
     );
-    if a.number != 0 {
-        return a.number as u64;
+    if answer.is_err() {
+        return pack(answer);
     }
     let n = readings.len();
     encode_doubles(readings, n, read);
-    listed(0, a.count, r, c, v, rows, cols, values)
+    listed(
+        answer,
+        row_cells,
+        col_cells,
+        value_cells,
+        rows,
+        cols,
+        values,
+    )
 }
 
 #[unsafe(no_mangle)]
@@ -71,46 +81,28 @@ pub extern "C" fn capi_change(
 ) -> u64
     ensures { leaves result readings.new rows.new cols.new values.new ≡ told_bytes ((whole 4 wiring.now && (whole 8 readings.old && (whole 4 term_index.now && whole 8 term_coefficient.now))) && whole 8 solution.now) (step (given_in wiring.entry term_index.entry term_coefficient.entry solution.entry) first_place (λ W h. []) (words_in readings.entry rows.entry cols.entry values.entry) (change head low high)) readings.old rows.old cols.old values.old }
 {
-    let mut w = [0u32; 3033];
-    let mut r = [0.0; 8065];
-    let mut i = [0u32; 1024];
-    let mut k = [0.0; 1024];
-    let l = take_network(
-        wiring,
-        readings,
-        term_index,
-        term_coefficient,
-        &mut w,
-        &mut r,
-        &mut i,
-        &mut k,
-    );
-    if !l.ok {
-        return 1;
-    }
-    let a = l.wiring;
-    let b = l.readings;
-    let c = l.indexes;
-    let d = l.coefficients;
-    let mut s = [0.0; 6017];
-    let p = take_doubles(solution, &mut s);
-    if !p.ok {
-        return 1;
-    }
-    let e = p.count;
-    let mut x = [0u32; 27552];
-    let mut y = [0u32; 27552];
-    let mut z = [0.0; 27552];
-    let n = list_room(27552, rows.len(), cols.len(), values.len());
+    let arrays = &mut Arrays::new();
+    let Some(lengths) = arrays.fill(wiring, readings, term_index, term_coefficient) else {
+        return pack(Err(Refusal::Size));
+    };
+    let mut solved = [0.0; 6017];
+    let Some(count) = take_doubles(solution, &mut solved) else {
+        return pack(Err(Refusal::Size));
+    };
+    let mut row_cells = [0u32; 27552];
+    let mut col_cells = [0u32; 27552];
+    let mut value_cells = [0.0; 27552];
+    let room = list_room(27552, rows.len(), cols.len(), values.len());
+    let held = &mut arrays.readings[..];
     change_out(
-        &w[..a],
-        &mut r[..b],
-        &i[..c],
-        &k[..d],
-        &s[..e],
-        &mut x[..n],
-        &mut y[..n],
-        &mut z[..n],
+        &arrays.wiring[..lengths.wiring],
+        &mut held[..lengths.readings],
+        &arrays.indexes[..lengths.indexes],
+        &arrays.coefficients[..lengths.coefficients],
+        &solved[..count],
+        &mut row_cells[..room],
+        &mut col_cells[..room],
+        &mut value_cells[..room],
         head,
         low,
         high,

@@ -7,6 +7,7 @@ ghost use Rattle.capi_change.specs.Told.{told, telling, told_run, telling_run};
 use change::change;
 use change_run::run_changes;
 use decoding::answer::pack;
+use sequence::number;
 
 #[unsafe(no_mangle)]
 pub extern "C" fn site_change(
@@ -24,7 +25,7 @@ pub extern "C" fn site_change(
 ) -> u64
     ensures { told result (words readings.new rows.new cols.new values.new) ≡ telling (step (given wiring.now term_index.now term_coefficient.now solution.now) first_place (λ W h. []) (words readings.old rows.old cols.old values.old) (change head low high)) }
 {
-    let a = change(
+    pack(change(
         wiring,
         readings,
         term_index,
@@ -36,8 +37,7 @@ pub extern "C" fn site_change(
         head,
         low,
         high,
-    );
-    pack(a.number, a.count)
+    ))
 }
 
 #[unsafe(no_mangle)]
@@ -56,7 +56,7 @@ pub extern "C" fn site_run_changes(
 ) -> u32
     ensures { told_run result (words readings.new rows.new cols.new values.new) numbers.new counted.new ≡ telling_run (run_call (given wiring.now term_index.now term_coefficient.now solution.now) first_place (λ W h. []) (words readings.old rows.old cols.old values.old) changes.now numbers.old counted.old) }
 {
-    let a = run_changes(
+    number(run_changes(
         wiring,
         readings,
         term_index,
@@ -68,6 +68,5 @@ pub extern "C" fn site_run_changes(
         changes,
         numbers,
         counted,
-    );
-    a.number
+    ))
 }

@@ -1,5 +1,5 @@
 -- One column of a parameter on bytes: it has dim doubles, at most 6544, and the laws of the call's answer.
--- Main results: `gives_number`; `passed_size`, `passed_room`, `answer_refused`, `answer_done`, `column_one`. Assumes nothing.
+-- Main results: `gives_number`; `passed_size`, `passed_room`, `passed_count`, `answer_refused`, `answer_done`, `column_one`. Assumes nothing.
 use mathlib.Core.Path.{◌≡◌, refl, sym, ap, ◌∙◌}
 use mathlib.Core.Bool.{Bool, true, false, cond, not, ◌&&◌}
 use mathlib.Core.List.{List, [], ◌∷◌, ◌++◌}
@@ -9,6 +9,7 @@ use native.Mathlib.Omega.{arith}
 use lib.Dec.{T, eqb}
 use lib.ListN.{length, take}
 use lib.Ieee.{Float}
+use Rattle.std.specs.Prelude.{Option, Some, None}
 use borrow.Author.Tests.{eqb-true, ne_eqb, ltb-false}
 use Rattle.sequence.specs.Lists.{each, front}
 use Rattle.sequence.specs.Answers.{Test, test, first_of, marked, short, Filled, filled}
@@ -24,8 +25,6 @@ use Rattle.interface.specs.declared.Parameter.{Parameter}
 use Rattle.parameter_column.specs.declared.Served.{Served}
 use Rattle.parameter_column.specs.Columns.{column_words}
 use Rattle.parameter_sheet.specs.Sheet.{jacobian}
-use Rattle.sens_parameters.specs.declared.ServedParameter.{ServedParameter}
-use Rattle.sens_parameters.specs.declared.ServedParameter.TheVariants.{Known, Unknown}
 use Rattle.sens_parameters.specs.Calls.{served_of, columns_hold, is_cost, some_piecewise, columns_of, result_of, own_tests, jacobian_number, columns_filled, jacobian_call}
 use Rattle.decoding.specs.Exports.{out, packed}
 use Rattle.decoding.specs.Decoding.{Cells}
@@ -63,23 +62,23 @@ module _ (N : Network) (s : List Float) (i : ℕ) where
   abbrev before_room : Served → List Test
   before_room k = solution_tests false N s ++ test 5 (not (columns_hold (counted N) k (i ∷ []))) ∷ test 6 (is_cost k && some_piecewise (counted N) N.wiring (i ∷ [])) ∷ []
 
-  abbrev called : ServedParameter → List Float → Filled Float
+  abbrev called : Option Served → List Float → Filled Float
   called x sheet = columns_filled (jacobian_number N s x (i ∷ []) sheet) (i ∷ []) (result_of N s x (i ∷ [])) sheet
 
-  unknown_refused : (sheet : List Float) → jacobian_number N s Unknown (i ∷ []) sheet ≡ 0 → ⊥
+  unknown_refused : (sheet : List Float) → jacobian_number N s None (i ∷ []) sheet ≡ 0 → ⊥
   unfolding jacobian_number marked
   unknown_refused sheet e = gives_number (solution_tests false N s) 4 tt (λ z. omega arith) e
 
   -- ---- what number 0 says
 
-  sized : (x : ServedParameter) (sheet : List Float) → jacobian_number N s x (i ∷ []) sheet ≡ 0 → sizes_hold N ≡ true
+  sized : (x : Option Served) (sheet : List Float) → jacobian_number N s x (i ∷ []) sheet ≡ 0 → sizes_hold N ≡ true
   unfolding jacobian_number
   sized x sheet e = passed_sizes N (solution_long N s) (solution_holds false N s) (own_tests N s x (i ∷ []) sheet) e
 
-  roomy : (x : ServedParameter) (sheet : List Float) → jacobian_number N s x (i ∷ []) sheet ≡ 0 → dim_of N ≤ length sheet
+  roomy : (x : Option Served) (sheet : List Float) → jacobian_number N s x (i ∷ []) sheet ≡ 0 → dim_of N ≤ length sheet
   unfolding jacobian_number marked
-  roomy (Known k) sheet e = omega (arith, one_long k, ltb-false (length sheet) (length (columns_of N s k (i ∷ []))) (last_passed (before_room k) tt (short (columns_of N s k (i ∷ [])) sheet) e))
-  roomy Unknown sheet e = absurd (unknown_refused sheet e)
+  roomy (Some k) sheet e = omega (arith, one_long k, ltb-false (length sheet) (length (columns_of N s k (i ∷ []))) (last_passed (before_room k) tt (short (columns_of N s k (i ∷ [])) sheet) e))
+  roomy None sheet e = absurd (unknown_refused sheet e)
 
   -- ---- the call's answer, its result by way of cells
 
@@ -92,10 +91,10 @@ module _ (N : Network) (s : List Float) (i : ℕ) where
       go false e = refl
 
   module _ (p : Parameter) (bs : List ℕ) (cells : List Float) (room : Cells 6544 (length bs) (length cells)) where
-    same_number : (x : ServedParameter) → jacobian_number N s x (i ∷ []) cells ≡ jacobian_number N s x (i ∷ []) (doubles_of bs)
+    same_number : (x : Option Served) → jacobian_number N s x (i ∷ []) cells ≡ jacobian_number N s x (i ∷ []) (doubles_of bs)
     unfolding jacobian_number marked
-    same_number Unknown = refl
-    same_number (Known k) = last_same (before_room k) tt (short (columns_of N s k (i ∷ [])) cells) (short (columns_of N s k (i ∷ [])) (doubles_of bs)) rooms
+    same_number None = refl
+    same_number (Some k) = last_same (before_room k) tt (short (columns_of N s k (i ∷ [])) cells) (short (columns_of N s k (i ∷ [])) (doubles_of bs)) rooms
       where
         rooms : first_of (before_room k) ≡ 0 → short (columns_of N s k (i ∷ [])) cells ≡ short (columns_of N s k (i ∷ [])) (doubles_of bs)
         rooms z =
@@ -104,25 +103,26 @@ module _ (N : Network) (s : List Float) (i : ℕ) where
             (λ l. omega (arith, made_length (double_at bs) (length bs / 8), room.within))
             (λ l. room.enough (length (columns_of N s k (i ∷ []))) (omega (arith, one_long k)) (omega (arith, made_length (double_at bs) (length bs / 8))))
 
-    result_long : (x : ServedParameter) → jacobian_number N s x (i ∷ []) cells ≡ 0 → length (result_of N s x (i ∷ [])) ≡ dim_of N
-    result_long (Known k) z = one_long k
-    result_long Unknown z = absurd (unknown_refused cells z)
+    result_long : (x : Option Served) → jacobian_number N s x (i ∷ []) cells ≡ 0 → length (result_of N s x (i ∷ [])) ≡ dim_of N
+    result_long (Some k) z = one_long k
+    result_long None z = absurd (unknown_refused cells z)
 
-    module _ {p' : Parameter} (q : p' ≡ p) {n m : ℕ} {new : List Float} (e : filled n m new ≡ jacobian_call N s p' (i ∷ []) cells) where
-      abbrev x : ServedParameter
+    module _ {n m : ℕ} {new : List Float} (e : filled n m new ≡ jacobian_call N s p (i ∷ []) cells) where
+      abbrev x : Option Served
       x = served_of p
 
-      answered : filled n m new ≡ called x cells
-      answered = e ∙ ap (λ (t : Parameter). called (served_of t) cells) q
-
       number : n ≡ jacobian_number N s x (i ∷ []) cells
-      number = ap (λ (a : Filled Float). a.number) answered ∙ number_is (jacobian_number N s x (i ∷ []) cells) (result_of N s x (i ∷ [])) cells
+      number = ap (λ (a : Filled Float). a.number) e ∙ number_is (jacobian_number N s x (i ∷ []) cells) (result_of N s x (i ∷ [])) cells
 
       pub passed_size : n ≡ 0 → sizes_hold N ≡ true
       passed_size z = sized x cells (sym number ∙ z)
 
       pub passed_room : n ≡ 0 → dim_of N ≤ length cells
       passed_room z = roomy x cells (sym number ∙ z)
+
+      pub passed_count : n ≡ 0 → m ≡ 1
+      unfolding columns_filled
+      passed_count z = ap (λ (a : Filled Float). a.count) e ∙ ap (λ (t : ℕ). (columns_filled t (i ∷ []) (result_of N s x (i ∷ [])) cells).count) (sym number ∙ z)
 
       pub answer_refused : {a : ℕ} → (n ≡ 0 → ⊥) → a ≡ packed n 0 → out a bs ≡ column_out true (dim_of N) (jacobian_call N s p (i ∷ []) (doubles_of bs)) bs
       answer_refused h f =
@@ -131,14 +131,14 @@ module _ (N : Network) (s : List Float) (i : ℕ) where
           ∙ ap (λ (t : ℕ). out (packed t 0) bs) j
           ∙ sym (refusal (dim_of N) i (result_of N s x (i ∷ [])) (doubles_of bs) bs (λ z. h (j ∙ z)))
 
-      pub answer_done : {a d : ℕ} {bs' : List ℕ} → n ≡ 0 → d ≡ dim_of N → bs' ≡ front (double_bytes (take d new)) bs → a ≡ packed 0 1 → out a bs' ≡ column_out true (dim_of N) (jacobian_call N s p (i ∷ []) (doubles_of bs)) bs
+      pub answer_done : {a d : ℕ} {bs' : List ℕ} → n ≡ 0 → d ≡ dim_of N → bs' ≡ front (double_bytes (take d new)) bs → a ≡ packed 0 m → out a bs' ≡ column_out true (dim_of N) (jacobian_call N s p (i ∷ []) (doubles_of bs)) bs
       unfolding columns_filled
       answer_done {a} {d} {bs'} z g f h =
           let j = sym number ∙ z in
           let l = result_long x j in
-          let r : new ≡ front (result_of N s x (i ∷ [])) cells = ap (λ (t : Filled Float). t.sheet) answered ∙ ap (λ (t : ℕ). (columns_filled t (i ∷ []) (result_of N s x (i ∷ [])) cells).sheet) j in
+          let r : new ≡ front (result_of N s x (i ∷ [])) cells = ap (λ (t : Filled Float). t.sheet) e ∙ ap (λ (t : ℕ). (columns_filled t (i ∷ []) (result_of N s x (i ∷ [])) cells).sheet) j in
           let t : take d new ≡ result_of N s x (i ∷ []) = ap (take d) r ∙ take_front (result_of N s x (i ∷ [])) cells d (l ∙ sym g) in
-          ap (λ (w : ℕ). out w bs') h
+          ap (λ (w : ℕ). out w bs') (h ∙ ap (packed 0) (passed_count z))
           ∙ ap (out (packed 0 1)) (f ∙ ap (λ (y : List Float). front (double_bytes y) bs) t)
           ∙ sym (result_front (dim_of N) i (result_of N s x (i ∷ [])) (doubles_of bs) bs l)
           ∙ ap (λ (w : ℕ). column_out true (dim_of N) (columns_filled w (i ∷ []) (result_of N s x (i ∷ [])) (doubles_of bs)) bs) (sym j ∙ same_number x)

@@ -8,6 +8,7 @@ use native.Mathlib.Omega.{arith}
 use lib.Dec.{eqb, ltb}
 use lib.ListN.{length, take}
 use lib.Ieee.{Float}
+use Rattle.std.specs.Prelude.{Option, Some, None}
 use borrow.Author.Tests.{eqb-true, ne_eqb}
 use Rattle.float64.specs.Values.{one}
 use Rattle.sequence.specs.Lists.{front}
@@ -20,8 +21,6 @@ use Rattle.network.specs.Numbers.{Network, network_tests, sizes_hold}
 use Rattle.solution_check.specs.Tests.{counted}
 use Rattle.interface.specs.declared.Operand.{Operand}
 use Rattle.sens_operands.specs.declared.Reported.{Reported}
-use Rattle.sens_operands.specs.declared.ServedOperand.{ServedOperand}
-use Rattle.sens_operands.specs.declared.ServedOperand.TheVariants.{Known, Unknown}
 use Rattle.sens_operands.specs.Calls.{served_of, elements, Selection, selection, start_of, selector_of, short_of, fronts, Selected, selected, own_tests, selector_number, laid, selector_call}
 use Rattle.sens_operands.proofs.Returns.{short_is, room_of, few_elements}
 use Rattle.decoding.specs.Exports.{Outs, outs, packed, laid_out}
@@ -39,30 +38,30 @@ four : {a b c d a' b' c' d' : Bool} → a ≡ a' → b ≡ b' → c ≡ c' → d
 four e f g h = rw (e, f, g, h)
 
 module _ (N : Network) where
-  abbrev called : ServedOperand → Selection → Selected
+  abbrev called : Option Reported → Selection → Selected
   called x L = laid (selector_number N x L) (counted N) N.wiring N.readings x L
 
   abbrev rows : Reported → Selection
   rows q = selector_of (counted N) N.wiring N.readings q
 
   -- an operand that is not served is refused
-  unknown_refused : (L : Selection) → selector_number N Unknown L ≡ 0 → ⊥
+  unknown_refused : (L : Selection) → selector_number N None L ≡ 0 → ⊥
   unfolding selector_number marked
   unknown_refused L e = gives_number (network_tests N true true) 4 tt (λ z. omega arith) e
 
-  number_is : (j : ℕ) (x : ServedOperand) (L : Selection) → (laid j (counted N) N.wiring N.readings x L).number ≡ j
+  number_is : (j : ℕ) (x : Option Reported) (L : Selection) → (laid j (counted N) N.wiring N.readings x L).number ≡ j
   unfolding laid
-  number_is j Unknown L = refl
-  number_is j (Known q) L = go (eqb j 0) refl
+  number_is j None L = refl
+  number_is j (Some q) L = go (eqb j 0) refl
     where
       go : (b : Bool) → eqb j 0 ≡ b → (cond b (selected 0 (elements (counted N) q) (fronts (rows q) L)) (selected j 0 L)).number ≡ j
       go true e = sym (eqb-true j 0 e)
       go false e = refl
 
-  refused_left : (j : ℕ) (x : ServedOperand) (L : Selection) → (j ≡ 0 → ⊥) → laid j (counted N) N.wiring N.readings x L ≡ selected j 0 L
+  refused_left : (j : ℕ) (x : Option Reported) (L : Selection) → (j ≡ 0 → ⊥) → laid j (counted N) N.wiring N.readings x L ≡ selected j 0 L
   unfolding laid
-  refused_left j Unknown L h = refl
-  refused_left j (Known q) L h = rw (ne_eqb j 0 h)
+  refused_left j None L h = refl
+  refused_left j (Some q) L h = rw (ne_eqb j 0 h)
 
   module _ (S K R W : List ℕ) where
     abbrev own : Selection
@@ -73,7 +72,7 @@ module _ (N : Network) where
     unfolding selector_out front joined
     as_before j L h = rw (ne_eqb j 0 h)
 
-    refusal : (j : ℕ) (x : ServedOperand) (L : Selection) → (j ≡ 0 → ⊥) → selector_out true (laid j (counted N) N.wiring N.readings x L) S K R W ≡ selecting (packed j 0) S K R W
+    refusal : (j : ℕ) (x : Option Reported) (L : Selection) → (j ≡ 0 → ⊥) → selector_out true (laid j (counted N) N.wiring N.readings x L) S K R W ≡ selecting (packed j 0) S K R W
     refusal j x L h = ap (λ (t : Selected). selector_out true t S K R W) (refused_left j x L h) ∙ as_before j L h
 
     -- the selector is in front, whatever sheets it is cut from
@@ -96,39 +95,36 @@ module _ (N : Network) where
           ∙ four (same_short (length g) (length (doubles_of S)) 1 1 (length S / 8) (omega arith) hg (made_length (double_at S) (length S / 8))) (same_short (length k) (length (words_of K)) n 512 (length K / 4) few hk (made_length (word_at K) (length K / 4))) (same_short (length r) (length (words_of R)) n 512 (length R / 4) few hr (made_length (word_at R) (length R / 4))) (same_short (length w) (length (doubles_of W)) n 512 (length W / 8) few hw (made_length (double_at W) (length W / 8)))
           ∙ short_is (doubles_of S) (words_of K) (words_of R) (doubles_of W) (start_of (counted N) N.wiring N.readings q) n
 
-      same_number : (x : ServedOperand) → selector_number N x cells ≡ selector_number N x own
+      same_number : (x : Option Reported) → selector_number N x cells ≡ selector_number N x own
       unfolding selector_number marked
-      same_number Unknown = refl
-      same_number (Known q) = last_same (network_tests N true true) tt (short_of (rows q) cells) (short_of (rows q) own) (λ z. rooms q (few_elements (few_counts N true true z) q))
+      same_number None = refl
+      same_number (Some q) = last_same (network_tests N true true) tt (short_of (rows q) cells) (short_of (rows q) own) (λ z. rooms q (few_elements (few_counts N true true z) q))
 
-      roomy : (x : ServedOperand) → selector_number N x cells ≡ 0 → (1 ≤ length g) × ((called x cells).count ≤ length k) × ((called x cells).count ≤ length r) × ((called x cells).count ≤ length w)
+      roomy : (x : Option Reported) → selector_number N x cells ≡ 0 → (1 ≤ length g) × ((called x cells).count ≤ length k) × ((called x cells).count ≤ length r) × ((called x cells).count ≤ length w)
       unfolding selector_number marked laid
-      roomy Unknown z = absurd (unknown_refused cells z)
-      roomy (Known q) z =
+      roomy None z = absurd (unknown_refused cells z)
+      roomy (Some q) z =
           let n = elements (counted N) q in
           let f : ltb (length g) 1 || ltb (length k) n || ltb (length r) n || ltb (length w) n ≡ false = short_is g k r w (start_of (counted N) N.wiring N.readings q) n ∙ last_passed (network_tests N true true) tt (short_of (rows q) cells) z in
           rw z (room_of (length g) (length k) (length r) (length w) n f)
 
-      done_by : (x : ServedOperand) → selector_number N x cells ≡ 0 → selector_out true (called x cells) S K R W ≡ selector_out true (called x own) S K R W
+      done_by : (x : Option Reported) → selector_number N x cells ≡ 0 → selector_out true (called x cells) S K R W ≡ selector_out true (called x own) S K R W
       unfolding laid
-      done_by Unknown z = absurd (unknown_refused cells z)
-      done_by (Known q) z =
-          ap (λ (j : ℕ). selector_out true (laid j (counted N) N.wiring N.readings (Known q) cells) S K R W) z
+      done_by None z = absurd (unknown_refused cells z)
+      done_by (Some q) z =
+          ap (λ (j : ℕ). selector_out true (laid j (counted N) N.wiring N.readings (Some q) cells) S K R W) z
           ∙ same_fronts q cells own
-          ∙ ap (λ (j : ℕ). selector_out true (laid j (counted N) N.wiring N.readings (Known q) own) S K R W) (sym z ∙ same_number (Known q))
+          ∙ ap (λ (j : ℕ). selector_out true (laid j (counted N) N.wiring N.readings (Some q) own) S K R W) (sym z ∙ same_number (Some q))
 
-      module _ (o : Operand) {o' : Operand} (q : o' ≡ o) {n m : ℕ} {L : Selection} (e : selected n m L ≡ selector_call N o' cells) where
-        abbrev x : ServedOperand
+      module _ (o : Operand) {n m : ℕ} {L : Selection} (e : selected n m L ≡ selector_call N o cells) where
+        abbrev x : Option Reported
         x = served_of o
 
-        answered : selected n m L ≡ called x cells
-        answered = e ∙ ap (λ (t : Operand). called (served_of t) cells) q
-
         number : n ≡ selector_number N x cells
-        number = ap (λ (a : Selected). a.number) answered ∙ number_is (selector_number N x cells) x cells
+        number = ap (λ (a : Selected). a.number) e ∙ number_is (selector_number N x cells) x cells
 
         pub passed_room : n ≡ 0 → (1 ≤ length g) × (m ≤ length k) × (m ≤ length r) × (m ≤ length w)
-        passed_room z = rw (ap (λ (a : Selected). a.count) answered) (roomy x (sym number ∙ z))
+        passed_room z = rw (ap (λ (a : Selected). a.count) e) (roomy x (sym number ∙ z))
 
         pub answer_refused : {a : ℕ} → (n ≡ 0 → ⊥) → a ≡ packed n 0 → selecting a S K R W ≡ selector_out true (selector_call N o own) S K R W
         answer_refused h f =
@@ -144,12 +140,12 @@ module _ (N : Network) where
             ap (λ (t : Outs). selecting t.word S' t.rows t.cols t.values) h
             ∙ ap (λ (t : List ℕ). selecting (packed 0 m) t (laid_out true (list 0 m L.counts L.rows L.weights) K R W).rows (laid_out true (list 0 m L.counts L.rows L.weights) K R W).cols (laid_out true (list 0 m L.counts L.rows L.weights) K R W).values) f
             ∙ ap (λ (j : ℕ). selector_out true (selected j m L) S K R W) (sym z)
-            ∙ ap (λ (t : Selected). selector_out true t S K R W) answered
+            ∙ ap (λ (t : Selected). selector_out true t S K R W) e
             ∙ done_by x (sym number ∙ z)
 
     -- ---- sizes that do not hold are refused at once
 
-    one_by : (j : ℕ) (x : ServedOperand) (L : Selection) (ok : Bool) → (ok ≡ true → j ≡ 1) → selecting 1 S K R W ≡ selector_out ok (laid j (counted N) N.wiring N.readings x L) S K R W
+    one_by : (j : ℕ) (x : Option Reported) (L : Selection) (ok : Bool) → (ok ≡ true → j ≡ 1) → selecting 1 S K R W ≡ selector_out ok (laid j (counted N) N.wiring N.readings x L) S K R W
     unfolding selector_out
     one_by j x L false h = refl
     one_by j x L true h = ap (λ (t : ℕ). selecting (packed t 0) S K R W) (sym (h refl)) ∙ sym (refusal j x L (λ z. absurd (omega (arith, h refl))))

@@ -1,7 +1,7 @@
 // `operand_selector`.
 ghost use Rattle.std.specs.Prelude.{◌≡◌, true, ◌/◌, min, length};
 ghost use Rattle.words.specs.Words.{words_of, doubles_of};
-ghost use Rattle.network.specs.Numbers.{lent};
+ghost use Rattle.network.specs.Sites.{network_in};
 ghost use Rattle.interface.specs.Codes.{operand_of};
 ghost use Rattle.asked.specs.Asked.{operand_asked};
 ghost use Rattle.decoding.specs.Exports.{all_whole, decoded};
@@ -9,48 +9,52 @@ ghost use Rattle.sens_operands.specs.Calls.{selection, selector_call};
 ghost use Rattle.capi_columns.specs.Columns.{selecting, selector_out};
 
 use asked::operand_asked;
+use decoding::Arrays;
 use decoding::answer::{listed, pack};
-use decoding::decode::take_network;
+use interface::Operand;
+use network::Lent;
 use sens_operands::operand_selector;
-use sequence::least;
+use sequence::Refusal;
 use words::encode_doubles;
 
 fn selector_out(
-    wiring: &[u32],
-    readings: &[f64],
-    term_index: &[u32],
-    term_coefficient: &[f64],
-    operand: u32,
-    g: &mut [f64],
-    k: &mut [u32],
-    r: &mut [u32],
-    v: &mut [f64],
+    lent: Lent<'_>,
+    operand: Operand,
+    sign_cells: &mut [f64],
+    count_cells: &mut [u32],
+    row_cells: &mut [u32],
+    weight_cells: &mut [f64],
     sign: &mut [u8],
     counts: &mut [u8],
     rows: &mut [u8],
     weights: &mut [u8],
 ) -> u64
-    requires g_len { (length g.old ≡ min 1 (length sign.old / 8)) × (length k.old ≡ min 512 (length counts.old / 4)) }
-    requires r_len { (length r.old ≡ min 512 (length rows.old / 4)) × (length v.old ≡ min 512 (length weights.old / 8)) }
-    ensures { selecting result sign.new counts.new rows.new weights.new ≡ selector_out true (selector_call (lent wiring.entry readings.entry term_index.entry term_coefficient.entry) (operand_asked (operand_of operand)) (selection (doubles_of sign.old) (words_of counts.old) (words_of rows.old) (doubles_of weights.old))) sign.old counts.old rows.old weights.old }
+    requires elements { (length sign_cells.old ≡ min 1 (length sign.old / 8)) × (length count_cells.old ≡ min 512 (length counts.old / 4)) }
+    requires entries { (length row_cells.old ≡ min 512 (length rows.old / 4)) × (length weight_cells.old ≡ min 512 (length weights.old / 8)) }
+    ensures { selecting result sign.new counts.new rows.new weights.new ≡ selector_out true (selector_call (network_in lent.entry) operand (selection (doubles_of sign.old) (words_of counts.old) (words_of rows.old) (doubles_of weights.old))) sign.old counts.old rows.old weights.old }
 {
-    let o = operand_asked(operand);
-    let a = operand_selector(
-        wiring,
-        readings,
-        term_index,
-        term_coefficient,
-        o,
-        g,
-        k,
-        r,
-        v,
-    );
-    if a.number != 0 {
-        return pack(a.number, 0);
+    match operand_selector(
+        lent,
+        operand,
+        sign_cells,
+        count_cells,
+        row_cells,
+        weight_cells,
+    ) {
+        Ok(count) => {
+            encode_doubles(sign_cells, 1, sign);
+            listed(
+                Ok(count),
+                count_cells,
+                row_cells,
+                weight_cells,
+                counts,
+                rows,
+                weights,
+            )
+        }
+        Err(refusal) => pack(Err(refusal)),
     }
-    encode_doubles(g, 1, sign);
-    listed(0, a.count, k, r, v, counts, rows, weights)
 }
 
 #[unsafe(no_mangle)]
@@ -67,45 +71,25 @@ pub extern "C" fn capi_operand_selector(
 ) -> u64
     ensures { selecting result sign.new counts.new rows.new weights.new ≡ selector_out (all_whole wiring.entry readings.entry term_index.entry term_coefficient.entry) (selector_call (decoded wiring.entry readings.entry term_index.entry term_coefficient.entry) (operand_asked (operand_of operand)) (selection (doubles_of sign.old) (words_of counts.old) (words_of rows.old) (doubles_of weights.old))) sign.old counts.old rows.old weights.old }
 {
-    let mut w = [0u32; 3033];
-    let mut r = [0.0; 8065];
-    let mut i = [0u32; 1024];
-    let mut k = [0.0; 1024];
-    let l = take_network(
-        wiring,
-        readings,
-        term_index,
-        term_coefficient,
-        &mut w,
-        &mut r,
-        &mut i,
-        &mut k,
-    );
-    if !l.ok {
-        return 1;
-    }
-    let a = l.wiring;
-    let b = l.readings;
-    let c = l.indexes;
-    let d = l.coefficients;
-    let mut one = [0.0; 1];
-    let mut places = [0u32; 512];
-    let mut at = [0u32; 512];
-    let mut by = [0.0; 512];
-    let e = least(1, sign.len() / 8);
-    let f = least(512, counts.len() / 4);
-    let g = least(512, rows.len() / 4);
-    let h = least(512, weights.len() / 8);
+    let mut arrays = Arrays::new();
+    let Some(lent) = arrays.read(wiring, readings, term_index, term_coefficient) else {
+        return pack(Err(Refusal::Size));
+    };
+    let mut sign_cells = [0.0; 1];
+    let mut count_cells = [0u32; 512];
+    let mut row_cells = [0u32; 512];
+    let mut weight_cells = [0.0; 512];
+    let sign_room = (sign.len() / 8).min(1);
+    let count_room = (counts.len() / 4).min(512);
+    let row_room = (rows.len() / 4).min(512);
+    let weight_room = (weights.len() / 8).min(512);
     selector_out(
-        &w[..a],
-        &r[..b],
-        &i[..c],
-        &k[..d],
-        operand,
-        &mut one[..e],
-        &mut places[..f],
-        &mut at[..g],
-        &mut by[..h],
+        lent,
+        operand_asked(operand),
+        &mut sign_cells[..sign_room],
+        &mut count_cells[..count_room],
+        &mut row_cells[..row_room],
+        &mut weight_cells[..weight_room],
         sign,
         counts,
         rows,

@@ -1,15 +1,14 @@
 -- Slices that were decoded or not, beside a network: what the export's test says of them, and its answer on what was decoded.
 -- Main results: `beside`, `left_out`, `right_out`, `missed`, `told_entries`, `told_sheets`. Assumes nothing.
 use mathlib.Core.Path.{◌≡◌, refl}
-use mathlib.Core.Bool.{Bool, true, false, not, ◌&&◌, and-false}
+use mathlib.Core.Bool.{Bool, true, false, ◌&&◌, and-false}
 use mathlib.Core.List.{List}
 use Prim.Native.Nat.{ℕ}
 use lib.Ieee.{Float}
-use borrow.Author.Tests.{not-true}
+use Rattle.std.specs.Prelude.{None}
 use Rattle.network.specs.Numbers.{Network, sizes_hold}
-use Rattle.decoding.specs.declared.Lengths.{Lengths}
 use Rattle.decoding.specs.Exports.{Out}
-use Rattle.decoding.specs.Decoding.{Arrays, Read}
+use Rattle.decoding.specs.Decoding.{Read}
 
 -- ---- two tests that are both asked
 
@@ -22,15 +21,15 @@ left_out q e = rw e
 pub right_out : (p : Bool) {q : Bool} → q ≡ false → p && q ≡ false
 right_out p e = rw (e, and-false p)
 
--- ---- a network that was not decoded
+-- ---- a network that was not decoded, in an export with slices of its own
 
 missing : (ok own sized : Bool) → ok && sized ≡ false → (ok && own) && sized ≡ false
 missing false own sized e = refl
 missing true true sized e = e
 missing true false sized e = refl
 
-pub missed : {ok : Bool} {N : Network} {l : Lengths} {A : Arrays} (own : Bool) → Read ok N l A → not l.ok ≡ true → (ok && own) && sizes_hold N ≡ false
-missed {ok} {N} own r h = missing ok own (sizes_hold N) (r.refused (not-true _ h))
+pub missed : {A : Type 0} {ok : Bool} {N : Network} {Is : A → Type 0} (own : Bool) → Read ok N None Is → (ok && own) && sizes_hold N ≡ false
+missed {A} {ok} {N} own r = missing ok own (sizes_hold N) r.refused
 
 -- ---- what was decoded is what the bytes say
 

@@ -1,20 +1,25 @@
 // The calls before and after the solve.
 ghost use Rattle.std.specs.Prelude.{◌≡◌, true, ◌&&◌, [], ◌∷◌, length};
 ghost use Rattle.words.specs.Words.{words_of, doubles_of};
-ghost use Rattle.network.specs.Numbers.{lent};
+ghost use Rattle.network.specs.Sites.{network_in};
 ghost use Rattle.interface.specs.Codes.{mode_of};
 ghost use Rattle.asked.specs.Asked.{mode_asked};
 ghost use Rattle.decoding.specs.Exports.{out, all_whole, decoded, filled_out};
 ghost use Rattle.decoding.specs.Decoding.{Cells};
 ghost use Rattle.contraction.specs.Contraction.{selector};
+ghost use Rattle.contraction.specs.Selectors.{selector_in};
 ghost use Rattle.sens.specs.Calls.{first_call, third_call};
 ghost use Rattle.capi_contraction.specs.Contraction.{entries_fit, sheets_fit, written, first_out};
 
 use asked::mode_asked;
+use contraction::Selector;
+use decoding::Arrays;
 use decoding::answer::{answered, cells_for, pack};
-use decoding::decode::{take_doubles, take_network, take_words};
+use decoding::decode::{take_doubles, take_words};
 use interface::Mode;
+use network::Lent;
 use sens::{contraction_first, contraction_third};
+use sequence::{Refusal, count};
 use words::encode_doubles;
 
 // How many of the counted words are written.
@@ -22,46 +27,27 @@ fn written_words(mode: Mode, count: usize) -> usize
     ensures { result ≡ written mode count }
 {
     match mode {
-        Mode::Forward => 0,
         Mode::Adjoint => count,
-        Mode::Auto => 0,
+        Mode::Forward | Mode::Auto => 0,
     }
 }
 
+// Before the solve, for a selector of one element.
 fn first_out(
-    wiring: &[u32],
-    readings: &[f64],
-    term_index: &[u32],
-    term_coefficient: &[f64],
-    mode: u32,
-    sign: f64,
-    entries: u32,
-    rows: &[u32],
-    weights: &[f64],
+    lent: Lent<'_>,
+    mode: Mode,
+    selector: Selector<'_>,
     cells: &mut [f64],
     selection: &mut [u8],
 ) -> u64
-    requires { Cells 6544 (length selection.old) (length cells.old) }
-    ensures { out result selection.new ≡ first_out true (mode_asked (mode_of mode)) (first_call (lent wiring.entry readings.entry term_index.entry term_coefficient.entry) (mode_asked (mode_of mode)) (selector sign (entries ∷ []) rows.now weights.now) 1 (doubles_of selection.old)) selection.old }
+    requires cells { Cells 6544 (length selection.old) (length cells.old) }
+    requires one { length selector.counts.now ≡ 1 }
+    ensures { out result selection.new ≡ first_out true mode (first_call (network_in lent.entry) mode (selector_in selector.entry) 1 (doubles_of selection.old)) selection.old }
 {
-    let m = mode_asked(mode);
-    let counts = [entries];
-    let a = contraction_first(
-        wiring,
-        readings,
-        term_index,
-        term_coefficient,
-        m,
-        sign,
-        &counts,
-        rows,
-        weights,
-        1,
-        cells,
-    );
-    let n = written_words(m, a.count);
+    let answer = contraction_first(lent, mode, selector, 1, cells);
+    let n = written_words(mode, count(answer));
     encode_doubles(cells, n, selection);
-    pack(a.number, a.count)
+    pack(answer)
 }
 
 #[unsafe(no_mangle)]
@@ -79,92 +65,45 @@ pub extern "C" fn capi_contraction_first(
 ) -> u64
     ensures { out result selection.new ≡ first_out (all_whole wiring.entry readings.entry term_index.entry term_coefficient.entry && entries_fit rows.now weights.now) (mode_asked (mode_of mode)) (first_call (decoded wiring.entry readings.entry term_index.entry term_coefficient.entry) (mode_asked (mode_of mode)) (selector sign (entries ∷ []) (words_of rows.now) (doubles_of weights.now)) 1 (doubles_of selection.old)) selection.old }
 {
-    let mut w = [0u32; 3033];
-    let mut r = [0.0; 8065];
-    let mut i = [0u32; 1024];
-    let mut k = [0.0; 1024];
-    let l = take_network(
-        wiring,
-        readings,
-        term_index,
-        term_coefficient,
-        &mut w,
-        &mut r,
-        &mut i,
-        &mut k,
-    );
-    if !l.ok {
-        return 1;
-    }
-    let a = l.wiring;
-    let b = l.readings;
-    let c = l.indexes;
-    let d = l.coefficients;
-    let mut at = [0u32; 6544];
-    let mut by = [0.0; 6544];
-    let p = take_words(rows, &mut at);
-    if !p.ok {
-        return 1;
-    }
-    let q = take_doubles(weights, &mut by);
-    if !q.ok {
-        return 1;
-    }
-    let e = p.count;
-    let f = q.count;
+    let mut arrays = Arrays::new();
+    let Some(lent) = arrays.read(wiring, readings, term_index, term_coefficient) else {
+        return pack(Err(Refusal::Size));
+    };
+    let mut row_array = [0; 6544];
+    let Some(row_count) = take_words(rows, &mut row_array) else {
+        return pack(Err(Refusal::Size));
+    };
+    let mut weight_array = [0.0; 6544];
+    let Some(weight_count) = take_doubles(weights, &mut weight_array) else {
+        return pack(Err(Refusal::Size));
+    };
+    let selector = Selector {
+        sign,
+        counts: &[entries],
+        rows: &row_array[..row_count],
+        weights: &weight_array[..weight_count],
+    };
     let mut cells = [0.0; 6544];
     let n = cells_for(selection.len(), 6544);
-    first_out(
-        &w[..a],
-        &r[..b],
-        &i[..c],
-        &k[..d],
-        mode,
-        sign,
-        entries,
-        &at[..e],
-        &by[..f],
-        &mut cells[..n],
-        selection,
-    )
+    first_out(lent, mode_asked(mode), selector, &mut cells[..n], selection)
 }
 
+// After the solve, for a selector of one element.
 fn third_out(
-    wiring: &[u32],
-    readings: &[f64],
-    term_index: &[u32],
-    term_coefficient: &[f64],
-    mode: u32,
-    sign: f64,
-    entries: u32,
-    rows: &[u32],
-    weights: &[f64],
+    lent: Lent<'_>,
+    mode: Mode,
+    selector: Selector<'_>,
     parameter: &[f64],
     solved: &[f64],
     cells: &mut [f64],
     sheet: &mut [u8],
 ) -> u64
-    requires { Cells 1 (length sheet.old) (length cells.old) }
-    ensures { out result sheet.new ≡ filled_out true (third_call (lent wiring.entry readings.entry term_index.entry term_coefficient.entry) (mode_asked (mode_of mode)) (selector sign (entries ∷ []) rows.now weights.now) 1 parameter.now solved.now (doubles_of sheet.old)) sheet.old }
+    requires cells { Cells 1 (length sheet.old) (length cells.old) }
+    requires one { length selector.counts.now ≡ 1 }
+    ensures { out result sheet.new ≡ filled_out true (third_call (network_in lent.entry) mode (selector_in selector.entry) 1 parameter.now solved.now (doubles_of sheet.old)) sheet.old }
 {
-    let m = mode_asked(mode);
-    let counts = [entries];
-    let a = contraction_third(
-        wiring,
-        readings,
-        term_index,
-        term_coefficient,
-        m,
-        sign,
-        &counts,
-        rows,
-        weights,
-        1,
-        parameter,
-        solved,
-        cells,
-    );
-    answered(a.number, a.count, cells, sheet)
+    let answer = contraction_third(lent, mode, selector, 1, parameter, solved, cells);
+    answered(answer, cells, sheet)
 }
 
 #[unsafe(no_mangle)]
@@ -184,65 +123,40 @@ pub extern "C" fn capi_contraction_third(
 ) -> u64
     ensures { out result sheet.new ≡ filled_out (all_whole wiring.entry readings.entry term_index.entry term_coefficient.entry && (entries_fit rows.now weights.now && sheets_fit parameter.now solved.now)) (third_call (decoded wiring.entry readings.entry term_index.entry term_coefficient.entry) (mode_asked (mode_of mode)) (selector sign (entries ∷ []) (words_of rows.now) (doubles_of weights.now)) 1 (doubles_of parameter.now) (doubles_of solved.now) (doubles_of sheet.old)) sheet.old }
 {
-    let mut w = [0u32; 3033];
-    let mut r = [0.0; 8065];
-    let mut i = [0u32; 1024];
-    let mut k = [0.0; 1024];
-    let l = take_network(
-        wiring,
-        readings,
-        term_index,
-        term_coefficient,
-        &mut w,
-        &mut r,
-        &mut i,
-        &mut k,
-    );
-    if !l.ok {
-        return 1;
-    }
-    let a = l.wiring;
-    let b = l.readings;
-    let c = l.indexes;
-    let d = l.coefficients;
-    let mut at = [0u32; 6544];
-    let mut by = [0.0; 6544];
-    let p = take_words(rows, &mut at);
-    if !p.ok {
-        return 1;
-    }
-    let q = take_doubles(weights, &mut by);
-    if !q.ok {
-        return 1;
-    }
-    let e = p.count;
-    let f = q.count;
-    let mut x = [0.0; 6544];
-    let mut y = [0.0; 6544];
-    let s = take_doubles(parameter, &mut x);
-    if !s.ok {
-        return 1;
-    }
-    let t = take_doubles(solved, &mut y);
-    if !t.ok {
-        return 1;
-    }
-    let g = s.count;
-    let h = t.count;
+    let mut arrays = Arrays::new();
+    let Some(lent) = arrays.read(wiring, readings, term_index, term_coefficient) else {
+        return pack(Err(Refusal::Size));
+    };
+    let mut row_array = [0; 6544];
+    let Some(row_count) = take_words(rows, &mut row_array) else {
+        return pack(Err(Refusal::Size));
+    };
+    let mut weight_array = [0.0; 6544];
+    let Some(weight_count) = take_doubles(weights, &mut weight_array) else {
+        return pack(Err(Refusal::Size));
+    };
+    let mut parameter_array = [0.0; 6544];
+    let Some(parameter_count) = take_doubles(parameter, &mut parameter_array) else {
+        return pack(Err(Refusal::Size));
+    };
+    let mut solved_array = [0.0; 6544];
+    let Some(solved_count) = take_doubles(solved, &mut solved_array) else {
+        return pack(Err(Refusal::Size));
+    };
+    let selector = Selector {
+        sign,
+        counts: &[entries],
+        rows: &row_array[..row_count],
+        weights: &weight_array[..weight_count],
+    };
     let mut cells = [0.0; 1];
     let n = cells_for(sheet.len(), 1);
     third_out(
-        &w[..a],
-        &r[..b],
-        &i[..c],
-        &k[..d],
-        mode,
-        sign,
-        entries,
-        &at[..e],
-        &by[..f],
-        &x[..g],
-        &y[..h],
+        lent,
+        mode_asked(mode),
+        selector,
+        &parameter_array[..parameter_count],
+        &solved_array[..solved_count],
         &mut cells[..n],
         sheet,
     )

@@ -13,8 +13,8 @@ fn scale_out(operand: u32, parameter: u32, base: f64, cells: &mut [f64], sheet: 
     requires { Cells 1 (length sheet.old) (length cells.old) }
     ensures { out result sheet.new ≡ filled_out true (scaling (operand_of operand) (parameter_of parameter) base (doubles_of sheet.old)) sheet.old }
 {
-    let a = scale(operand, parameter, base, cells);
-    answered(a.number, a.count, cells, sheet)
+    let answer = scale(operand, parameter, base, cells);
+    answered(answer, cells, sheet)
 }
 
 #[unsafe(no_mangle)]

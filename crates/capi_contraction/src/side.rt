@@ -9,21 +9,21 @@ ghost use Rattle.capi_contraction.specs.Contraction.{sheets_fit, side_out};
 
 use asked::mode_asked;
 use decoding::decode::take_doubles;
+use interface::Mode;
 use sens::right_side;
 use words::encode_doubles;
 
 // The part's length, and its bytes where they have room.
 fn side_out<'a>(
-    mode: u32,
+    mode: Mode,
     count: usize,
     parameter: &'a [f64],
     selection: &'a [f64],
     sheet: &mut [u8],
 ) -> usize
-    ensures { out result sheet.new ≡ side_out true (side_of (mode_asked (mode_of mode)) count parameter.now selection.now) sheet.old }
+    ensures { out result sheet.new ≡ side_out true (side_of mode count parameter.now selection.now) sheet.old }
 {
-    let m = mode_asked(mode);
-    let part = right_side(m, count, parameter, selection);
+    let part = right_side(mode, count, parameter, selection);
     let n = part.len();
     if n <= sheet.len() / 8 {
         encode_doubles(part, n, sheet);
@@ -41,17 +41,19 @@ pub extern "C" fn capi_right_side(
 ) -> usize
     ensures { out result sheet.new ≡ side_out (sheets_fit parameter.now selection.now) (side_of (mode_asked (mode_of mode)) count (doubles_of parameter.now) (doubles_of selection.now)) sheet.old }
 {
-    let mut p = [0.0; 6544];
-    let mut s = [0.0; 6544];
-    let a = take_doubles(parameter, &mut p);
-    if !a.ok {
+    let mut parameter_array = [0.0; 6544];
+    let Some(parameter_count) = take_doubles(parameter, &mut parameter_array) else {
         return 0;
-    }
-    let b = take_doubles(selection, &mut s);
-    if !b.ok {
+    };
+    let mut selection_array = [0.0; 6544];
+    let Some(selection_count) = take_doubles(selection, &mut selection_array) else {
         return 0;
-    }
-    let i = a.count;
-    let j = b.count;
-    side_out(mode, count, &p[..i], &s[..j], sheet)
+    };
+    side_out(
+        mode_asked(mode),
+        count,
+        &parameter_array[..parameter_count],
+        &selection_array[..selection_count],
+        sheet,
+    )
 }

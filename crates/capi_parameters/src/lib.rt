@@ -9,6 +9,9 @@ ghost use Rattle.asked.specs.Asked.{parameter_asked};
 ghost use Rattle.capi_parameters.specs.Numbered.{numbered, numbering};
 
 use asked::parameter_asked;
+use network::Lent;
+use sens_parameters::parameter_jacobian;
+use sequence::number;
 
 // The number; on 0 as many columns as are listed are in front of the sheet.
 #[unsafe(no_mangle)]
@@ -24,16 +27,11 @@ pub extern "C" fn sens_parameter_jacobian(
 ) -> u32
     ensures { numbered result sheet.new ≡ numbering (jacobian_call (lent wiring.entry readings.entry term_index.entry term_coefficient.entry) solution.now (parameter_asked (parameter_of parameter)) columns.now sheet.old) }
 {
-    let p = parameter_asked(parameter);
-    let a = sens_parameters::parameter_jacobian(
+    let lent = Lent {
         wiring,
         readings,
         term_index,
         term_coefficient,
-        solution,
-        p,
-        columns,
-        sheet,
-    );
-    a.number
+    };
+    number(parameter_jacobian(lent, solution, parameter_asked(parameter), columns, sheet))
 }

@@ -11,7 +11,8 @@ use lib.Ieee.{Float}
 use borrow.Author.Tests.{ne_eqb, ltb-false}
 use Rattle.sequence.specs.Lists.{front}
 use Rattle.sequence.specs.Answers.{Test, first_of, marked, short}
-use Rattle.sequence.specs.Sheets.{Triplet, rows_of, cols_of, values_of, room, short_list}
+use Rattle.sequence.specs.declared.Triplet.{Triplet}
+use Rattle.sequence.specs.Sheets.{rows_of, cols_of, values_of, room, short_list}
 use Rattle.sequence.proofs.Lists.{made_length, front_length, or_none}
 use Rattle.sequence.proofs.Fronts.{take_front}
 use Rattle.words.specs.Words.{word_at, double_at, words_of, doubles_of, word_bytes, double_bytes}
@@ -54,11 +55,7 @@ module _ (m : ℕ) (x : Parts) (s : Program) where
   told_is : (B : Bytes) → assembled_out true x (assembles m x s) B ≡ told m x B
   told_is B = told_by B (eqb m 0) refl
 
-  -- refused: no count; else every part is in front
-  none_counted : (m ≡ 0 → ⊥) → assembles m x s ≡ assembled m 0 0 s
-  unfolding assembles
-  none_counted z = rw (ne_eqb m 0 z)
-
+  -- accepted: every part is in front
   all_counted : m ≡ 0 → assembles m x s ≡ assembled 0 (length x.a) (length x.p) (fronts x s)
   unfolding assembles
   all_counted z = rw z
@@ -154,17 +151,12 @@ module _ (N : Network) (B : Bytes) (s : Program) (h : ProgramCells B s) where
         ∙ sym (told_is (assemble_number N x (words_in B)) x (words_in B) B)
 
     -- refused: no byte moves
-    refused_bytes : (n ≡ 0 → ⊥) → n ≡ packed_both n k l → out n B ≡ assembled_out true x (assembled n k l t) B
+    refused_bytes : (n ≡ 0 → ⊥) → out (packed_both n k l) B ≡ assembled_out true x (assembled n k l t) B
     unfolding assembled_out
-    refused_bytes z q = rw (ne_eqb n 0 z) (ap (λ (w : ℕ). out w B) q)
+    refused_bytes z = rw (ne_eqb n 0 z)
 
-    pub assembly_refused : (n ≡ 0 → ⊥) → out n B ≡ assembled_out true x (assemble_call N (words_in B)) B
-    assembly_refused z =
-        let d : assembled n k l t ≡ assembled (assemble_number N x s) 0 0 s = e ∙ none_counted (assemble_number N x s) x s (λ y. z (number_is ∙ y)) in
-        let i : k ≡ 0 = ap (λ (b : Assembled). b.a_count) d in
-        let j : l ≡ 0 = ap (λ (b : Assembled). b.p_count) d in
-        let w : n ≡ packed_both n k l = omega arith in
-        refused_bytes z w ∙ over
+    pub assembly_refused : (n ≡ 0 → ⊥) → {w : ℕ} → w ≡ packed_both n k l → out w B ≡ assembled_out true x (assemble_call N (words_in B)) B
+    assembly_refused z q = ap (λ (w : ℕ). out w B) q ∙ refused_bytes z ∙ over
 
     module _ (z : n ≡ 0) where
       zero_is : assemble_number N x s ≡ 0

@@ -1,28 +1,26 @@
 -- The calls that fill a sheet, on bytes: how long each result is at most, and the laws of each call's answer.
--- Main results: `nodal_answer`, `nodal_one`; `read_answer`, `read_one`; `unsized_raw`, `unsized_primal`, `unsized_dual`. Assumes nothing.
-use mathlib.Core.Path.{◌≡◌}
-use mathlib.Core.Bool.{Bool, true, false, not, ◌&&◌}
+-- Main results: `nodal_answer`, `nodal_one`, `unread_solution`; `read_answer`, `read_one`; `unsized_raw`, `unsized_primal`, `unsized_dual`. Assumes nothing.
+use mathlib.Core.Path.{◌≡◌, sym}
+use mathlib.Core.Bool.{Bool, true, false, ◌&&◌}
 use mathlib.Core.List.{List, [], ◌∷◌}
 use Prim.Native.Nat.{ℕ, ◌/◌, ◌≤◌}
 use native.Mathlib.Omega.{arith}
 use lib.ListN.{length}
 use lib.Ieee.{Float}
-use borrow.Author.Tests.{not-true, not-false}
 use Rattle.sequence.specs.Answers.{test, first_of, marked, short, filled}
-use Rattle.sequence.proofs.Lists.{and_left, and_right, failed, held as kept, made_length}
+use Rattle.sequence.proofs.Lists.{and_left, and_right, made_length}
 use Rattle.words.specs.Words.{double_at, doubles_of}
 use Rattle.network.specs.Numbers.{Network, sizes_hold}
 use Rattle.solution_check.specs.Tests.{counted, solution_long, solution_holds, solution_tests}
-use Rattle.solution_check.proofs.Own.{few_pieces}
+use Rattle.solution_check.proofs.Own.{few_pieces, long_few}
 use Rattle.sens_snap.specs.Calls.{snap_number}
 use Rattle.raw_check.specs.Tests.{raw_long, raw_holds, raw_tests}
 use Rattle.opf_readback.specs.Readback.{nodal_sheet}
 use Rattle.opf_readback.proofs.Entries.{read_long}
-use Rattle.decoding.specs.declared.Lengths.{Lengths}
 use Rattle.decoding.specs.Exports.{out, whole, filled_out}
-use Rattle.decoding.specs.Decoding.{fits, Arrays, Read, Cells}
-use Rattle.decoding.proofs.Decoded.{contrary, fits_of, whole_of}
-use Rattle.decoding.proofs.Answered.{few_counts, sheet_answer, sheet_count, sheet_one}
+use Rattle.decoding.specs.Decoding.{fits, Cells}
+use Rattle.decoding.proofs.Decoded.{network, wholes, contrary, fits_of, whole_of}
+use Rattle.decoding.proofs.Answered.{unsized_own, few_counts, sheet_answer, sheet_count, sheet_one}
 use Rattle.problem.specs.Calls.{nodal_call, read_of, read_number, read_call}
 use Rattle.problem.proofs.Nodal.{nodal_long}
 use Rattle.capi_problem.proofs.Bounds.{columns_few, rows_few}
@@ -49,6 +47,11 @@ module _ (N : Network) (s : List Float) where
   pub nodal_one : (sheet : List Float) (ok : Bool) (bs : List ℕ) → ok && (sizes_hold N && solution_long N s) ≡ false → out 1 bs ≡ filled_out ok (nodal_call N s sheet) bs
   unfolding snap_number
   nodal_one sheet ok bs e = sheet_one N (solution_long N s) (solution_holds true N s) (test 7 (short nodal sheet) ∷ []) nodal sheet ok bs e
+
+-- a solution sheet that 6017 doubles do not hold is ragged, or longer than the network's
+module _ (w r i k s : List ℕ) where
+  pub unread_solution : false ≡ fits 8 s 6017 → (wholes w r i k && whole 8 s) && (sizes_hold (network w r i k) && solution_long (network w r i k) (doubles_of s)) ≡ false
+  unread_solution = unsized_own (network w r i k) (wholes w r i k) s (solution_long (network w r i k) (doubles_of s)) (long_few (network w r i k) (doubles_of s))
 
 -- ---- a solver's raw vectors: as many words as the solution sheet has
 
@@ -103,14 +106,14 @@ module _ (N : Network) (ok : Bool) (x z : List ℕ) where
     dual_fits =
         fits_of 8 z 5072 (and_right (whole 8 x) _ own_wholes) (omega (arith, rows_few N (doubles_of x) (doubles_of z) sized long, made_length (double_at z) (length z / 8)))
 
-  pub unsized_raw : {l : Lengths} {A : Arrays} → Read ok N l A → not l.ok ≡ true → whole_raw && sized_raw ≡ false
-  unsized_raw r h = contrary _ _ both (r.refused (not-true _ h))
+  pub unsized_raw : ok && sizes_hold N ≡ false → whole_raw && sized_raw ≡ false
+  unsized_raw = contrary _ _ both
 
-  pub unsized_primal : {r : Bool} → r ≡ fits 8 x 1536 → not r ≡ true → whole_raw && sized_raw ≡ false
-  unsized_primal e h = contrary _ _ primal_fits (failed e (not-true _ h))
+  pub unsized_primal : false ≡ fits 8 x 1536 → whole_raw && sized_raw ≡ false
+  unsized_primal e = contrary _ _ primal_fits (sym e)
 
-  pub unsized_dual : {r : Bool} → r ≡ fits 8 z 5072 → not r ≡ true → whole_raw && sized_raw ≡ false
-  unsized_dual e h = contrary _ _ dual_fits (failed e (not-true _ h))
+  pub unsized_dual : false ≡ fits 8 z 5072 → whole_raw && sized_raw ≡ false
+  unsized_dual e = contrary _ _ dual_fits (sym e)
 
-  pub wholly_raw : ok ≡ true → {r s : Bool} → r ≡ fits 8 x 1536 → not r ≡ false → s ≡ fits 8 z 5072 → not s ≡ false → whole_raw ≡ true
-  wholly_raw o e h d g = rw (o, whole_of 8 x 1536 (kept e (not-false _ h)), whole_of 8 z 5072 (kept d (not-false _ g)))
+  pub wholly_raw : ok ≡ true → true ≡ fits 8 x 1536 → true ≡ fits 8 z 5072 → whole_raw ≡ true
+  wholly_raw o e d = rw (o, whole_of 8 x 1536 (sym e), whole_of 8 z 5072 (sym d))

@@ -1,5 +1,5 @@
 -- The calls that fill a sheet, on bytes: how long each result is at most, and the laws of such a call's answer.
--- Main results: `solved_answer`, `solved_count`, `solved_one`. Assumes nothing.
+-- Main results: `solved_answer`, `solved_count`, `solved_one`, `unread_solution`. Assumes nothing.
 use mathlib.Core.Path.{◌≡◌}
 use mathlib.Core.Bool.{Bool, true, false, ◌&&◌}
 use mathlib.Core.List.{List, [], ◌∷◌}
@@ -14,11 +14,12 @@ use Rattle.network.specs.Numbers.{Network, sizes_hold}
 use Rattle.snapping.specs.Snap.{snap_sheet, dual_sheet, nu_flow_sheet}
 use Rattle.snapping.proofs.Words.{snap_long, dual_long}
 use Rattle.solution_check.specs.Tests.{counted, pieces_of, solution_long, solution_holds, solution_tests}
-use Rattle.solution_check.proofs.Own.{few_pieces}
+use Rattle.solution_check.proofs.Own.{few_pieces, long_few}
 use Rattle.sens_snap.specs.Calls.{snap_number, sheet_call}
-use Rattle.decoding.specs.Exports.{out, filled_out}
-use Rattle.decoding.specs.Decoding.{Cells}
-use Rattle.decoding.proofs.Answered.{passed_network, few_counts, sheet_answer, sheet_count, sheet_one}
+use Rattle.decoding.specs.Exports.{whole, out, filled_out}
+use Rattle.decoding.specs.Decoding.{fits, Cells}
+use Rattle.decoding.proofs.Decoded.{network, wholes}
+use Rattle.decoding.proofs.Answered.{unsized_own, passed_network, few_counts, sheet_answer, sheet_count, sheet_one}
 
 -- ---- lengths
 
@@ -49,3 +50,8 @@ module _ (N : Network) (s result : List Float) {most : ℕ} (small : first_of (s
 pub solved_one : (N : Network) (s result sheet : List Float) (ok : Bool) (bs : List ℕ) → ok && (sizes_hold N && solution_long N s) ≡ false → out 1 bs ≡ filled_out ok (sheet_call N s result sheet) bs
 unfolding snap_number
 solved_one N s result sheet ok bs e = sheet_one N (solution_long N s) (solution_holds true N s) (test 7 (short result sheet) ∷ []) result sheet ok bs e
+
+-- a solution sheet that 6017 doubles do not hold is ragged, or longer than the network's
+module _ (w r i k s : List ℕ) where
+  pub unread_solution : false ≡ fits 8 s 6017 → (wholes w r i k && whole 8 s) && (sizes_hold (network w r i k) && solution_long (network w r i k) (doubles_of s)) ≡ false
+  unread_solution = unsized_own (network w r i k) (wholes w r i k) s (solution_long (network w r i k) (doubles_of s)) (long_few (network w r i k) (doubles_of s))

@@ -2,8 +2,8 @@
 // slices, for programs in other languages.
 #![tactic(auto)]
 
-ghost use Rattle.std.specs.Prelude.{◌≡◌, ◌≤◌, length};
-ghost use Rattle.sequence.specs.Lists.{front};
+ghost use Rattle.std.specs.Prelude.{◌≡◌};
+ghost use Rattle.sequence.specs.Answers.{number_of, count_of};
 ghost use Rattle.network.specs.Numbers.{lent};
 ghost use Rattle.interface.specs.Codes.{operand_of, parameter_of, mode_of};
 ghost use Rattle.contraction.specs.Contraction.{selector_of};
@@ -13,18 +13,18 @@ ghost use Rattle.asked.specs.Asked.{operand_asked, mode_asked, scaling};
 ghost use Rattle.capi_sensitivity.specs.Told.{noted, told, counting, chosen, selecting, copied, copying};
 
 use asked::{mode_asked, operand_asked, scale};
+use contraction::Selector;
+use network::Lent;
 use sens::{contraction_first, contraction_third, right_side};
 use sens_operands::operand_selector;
-use sequence::Answer;
+use sequence::{Answer, number};
 
 // The number; on 0 the count goes to its word.
-fn note(a: Answer, count: &mut usize) -> u32
-    ensures { (result ≡ a.number) × (count.new ≡ noted a.number a.count count.old) }
+fn note(answer: Answer, count: &mut usize) -> u32
+    ensures { (result ≡ number_of answer) × (count.new ≡ noted (number_of answer) (count_of answer) count.old) }
 {
-    if a.number == 0 {
-        *count = a.count;
-    }
-    a.number
+    *count = answer.unwrap_or(*count);
+    number(answer)
 }
 
 // `operand_selector`; on 0 the selector is in front of its four sheets.
@@ -43,19 +43,15 @@ pub extern "C" fn sens_operand_selector(
 ) -> u32
     ensures { chosen result count.new (selection sign.new counts.new rows.new weights.new) ≡ selecting (selector_call (lent wiring.entry readings.entry term_index.entry term_coefficient.entry) (operand_asked (operand_of operand)) (selection sign.old counts.old rows.old weights.old)) count.old }
 {
-    let o = operand_asked(operand);
-    let a = operand_selector(
+    let lent = Lent {
         wiring,
         readings,
         term_index,
         term_coefficient,
-        o,
-        sign,
-        counts,
-        rows,
-        weights,
-    );
-    note(a, count)
+    };
+    let o = operand_asked(operand);
+    let answer = operand_selector(lent, o, sign, counts, rows, weights);
+    note(answer, count)
 }
 
 // The call before the solve; when adjoint, the selection sheet is filled.
@@ -76,34 +72,25 @@ pub extern "C" fn sens_contraction_first(
 ) -> u32
     ensures { told result count.new selection.new ≡ counting (first_call (lent wiring.entry readings.entry term_index.entry term_coefficient.entry) (mode_asked (mode_of mode)) (selector_of sign counts.entry rows.entry weights.entry) columns selection.old) count.old }
 {
-    let m = mode_asked(mode);
-    let a = contraction_first(
+    let lent = Lent {
         wiring,
         readings,
         term_index,
         term_coefficient,
-        m,
+    };
+    let selector = Selector {
         sign,
         counts,
         rows,
         weights,
-        columns,
-        selection,
-    );
-    note(a, count)
-}
-
-// A part's words into the front of a sheet that holds them.
-fn copy(part: &[f64], sheet: &mut [f64])
-    requires { length part.now ≤ length sheet.old }
-    ensures { sheet.new ≡ front part.now sheet.old }
-{
-    for i in 0..part.len() {
-        sheet[i] = part[i];
-    }
+    };
+    let m = mode_asked(mode);
+    let answer = contraction_first(lent, m, selector, columns, selection);
+    note(answer, count)
 }
 
 // The right side to be solved: its length, and where `sheet` has room its words.
+#[tactic(auto, unfolding(sequence::specs::Lists::front))]
 #[unsafe(no_mangle)]
 pub extern "C" fn sens_right_side<'a>(
     mode: u32,
@@ -114,11 +101,10 @@ pub extern "C" fn sens_right_side<'a>(
 ) -> usize
     ensures { copied result sheet.new ≡ copying (side_of (mode_asked (mode_of mode)) count parameter.now selection.now) sheet.old }
 {
-    let m = mode_asked(mode);
-    let part = right_side(m, count, parameter, selection);
+    let part = right_side(mode_asked(mode), count, parameter, selection);
     let n = part.len();
     if n <= sheet.len() {
-        copy(part, sheet);
+        sheet[..n].copy_from_slice(part);
     }
     n
 }
@@ -143,23 +129,21 @@ pub extern "C" fn sens_contraction_third(
 ) -> u32
     ensures { told result count.new out.new ≡ counting (third_call (lent wiring.entry readings.entry term_index.entry term_coefficient.entry) (mode_asked (mode_of mode)) (selector_of sign counts.entry rows.entry weights.entry) columns parameter.now solved.now out.old) count.old }
 {
-    let m = mode_asked(mode);
-    let a = contraction_third(
+    let lent = Lent {
         wiring,
         readings,
         term_index,
         term_coefficient,
-        m,
+    };
+    let selector = Selector {
         sign,
         counts,
         rows,
         weights,
-        columns,
-        parameter,
-        solved,
-        out,
-    );
-    note(a, count)
+    };
+    let m = mode_asked(mode);
+    let answer = contraction_third(lent, m, selector, columns, parameter, solved, out);
+    note(answer, count)
 }
 
 // `served_unit_scale`; on 0 the scale is out's first word.
@@ -173,6 +157,5 @@ pub extern "C" fn sens_served_unit_scale(
 ) -> u32
     ensures { told result count.new out.new ≡ counting (scaling (operand_of operand) (parameter_of parameter) base out.old) count.old }
 {
-    let a = scale(operand, parameter, base, out);
-    note(a, count)
+    note(scale(operand, parameter, base, out), count)
 }

@@ -1,19 +1,21 @@
 -- The returns of a change call, one law for each. Main results: `list_laid`, `list_refused`, `restored`, `set_laid`; `placed`, `place_inside`, `own_held`; `step_refused`, `step_own`, `step_made`. Assumes nothing.
 use mathlib.Core.Path.{◌≡◌, refl, sym, ap, ◌∙◌}
-use mathlib.Core.Bool.{Bool, true, false, cond, not}
+use mathlib.Core.Bool.{Bool, true, false, cond}
 use mathlib.Core.List.{List, [], ◌∷◌, ◌++◌}
 use Prim.Native.Nat.{ℕ, ◌+◌, ◌≤◌, ◌<◌}
 use native.Mathlib.Omega.{arith}
 use lib.ListN.{length, get_or, set, length-set}
 use lib.Seq.{set-set, set-get_or}
-use lib.Dec.{T, eqb, ltb, leb}
+use lib.Dec.{T, eqb}
 use lib.Ieee.{Float}
-use borrow.Author.Tests.{eqb-false, ltb-true, leb-true, ne_eqb}
-use Rattle.float64.specs.Values.{within, raw_limit}
-use Rattle.sequence.specs.Answers.{Test, test, first_of, marked}
-use Rattle.sequence.specs.Sheets.{Triplet, Laid, laid, lays, lays_if, short_list}
-use Rattle.sequence.proofs.Lists.{and_left, and_right}
-use Rattle.sequence.proofs.Answers.{first_stands, first_passes}
+use borrow.Author.Tests.{eqb-false, ne_eqb}
+use Rattle.std.specs.Prelude.{Result, Ok, Err}
+use Rattle.std.specs.Result.{is_err}
+use Rattle.sequence.specs.Answers.{Test, test, first_of, marked, number_of as answer_number}
+use Rattle.sequence.specs.declared.Refusal.{Refusal}
+use Rattle.sequence.specs.declared.Triplet.{Triplet}
+use Rattle.sequence.specs.Sheets.{Laid, laid, lays, lays_if, short_list}
+use Rattle.sequence.proofs.Answers.{first_stands, first_passes, refused}
 use Rattle.network.specs.declared.Counts.{Counts}
 use Rattle.network.specs.Layout.{size, readings_length, field_start, place, ReadingsLaid}
 use Rattle.network.specs.declared.Field.{Field}
@@ -24,7 +26,6 @@ use Rattle.solution_check.specs.Tests.{solution_long, solution_holds, solution_t
 use Rattle.kkt.specs.Slots.{Rule}
 use Rattle.kkt.specs.Matrix.{kkt_matrix_list}
 use Rattle.kkt_laws.proofs.Bound.{list_length}
-use Rattle.change_table.specs.Table.{is_kind, field_of}
 use Rattle.job_book.specs.Book.{Change, Given, Words, words, outcome, outcome_by_number, made_at, own_tests, kind_of, index_of, value_of, counts_in, network_of, matrix_of, changed, number_of, step}
 
 -- ---- what the laid list makes of a change
@@ -60,6 +61,16 @@ module _ (ts : List Triplet) (r : List Float) (W : Words) {R C : List ℕ} {X : 
   count_le : laid n k R C X ≡ lays_if ts W.rows W.cols W.values → k ≤ length ts
   count_le h = by_count (cond (short_list ts W.rows W.cols W.values) 7 0) _ refl h
 
+-- ---- what a call hands back: a refusal has a number that is not 0, and else the number is 0
+
+pub number_err : (a : Result ℕ Refusal) → is_err a ≡ true → answer_number a ≡ 0 → ⊥
+number_err (Ok n) e z = cc
+number_err (Err r) e z = refused r z
+
+pub number_ok : (a : Result ℕ Refusal) → is_err a ≡ false → answer_number a ≡ 0
+number_ok (Ok n) e = refl
+number_ok (Err r) e = cc
+
 -- the old value put back
 pub restored : (r : List Float) (at : ℕ) (v d : Float) → set (set r at v) at (get_or r at d) ≡ r
 restored r at v d = set-set r at v (get_or r at d) ∙ set-get_or r at d
@@ -82,35 +93,18 @@ module _ (rule : Rule) (c : Counts) (w ti : List ℕ) (tc s r : List Float) (W :
 
 -- ---- a change whose own tests hold none
 
-pub kind_low : (k : ℕ) → is_kind k ≡ true → (0 < k) × (k ≤ 9)
-kind_low k h = (leb-true 1 k (and_left (leb 1 k) (leb k 9) h), leb-true k 9 (and_right (leb 1 k) (leb k 9) h))
-
 -- the reading's place, as it is reckoned
-pub placed : (c : Counts) (kind : ℕ) {i s j : ℕ} {f : Field} → f ≡ field_of kind → s ≡ field_start c f → j ≡ i → s + j ≡ place c (field_of kind) i
+pub placed : (c : Counts) (f : Field) (i : ℕ) {s : ℕ} → s ≡ field_start c f → s + i ≡ place c f i
 unfolding place
-placed c kind e q p = rw (q, e, p)
+placed c f i e = rw e
 
 pub place_inside : (c : Counts) (f : Field) (i : ℕ) → i < size c f → place c f i < readings_length c
 unfolding place
 place_inside c f i h = omega (arith, field_inside c f)
 
-own_kind : (a b d : Bool) → 0 ≡ first_of (test 3 (not a) ∷ test 4 (not b) ∷ test 5 (not d) ∷ []) → (b ≡ true) × (d ≡ true)
-unfolding first_of
-own_kind false b d h = absurd (omega (arith, h))
-own_kind true false d h = absurd (omega (arith, h))
-own_kind true true false h = absurd (omega (arith, h))
-own_kind true true true h = (refl, refl)
-
-module _ (c : Counts) (kind i : ℕ) (v : Float) where
-  pub own_held : 0 ≡ first_of (own_tests c kind i v) → (is_kind kind ≡ true) × (i < size c (field_of kind))
-  unfolding own_tests
-  own_held h =
-      let p = own_kind (within raw_limit v) (is_kind kind) (ltb i (size c (field_of kind))) h in
-      (p.0, ltb-true i (size c (field_of kind)) p.1)
-
-  own_marked : T (marked (own_tests c kind i v))
-  unfolding marked own_tests
-  own_marked = tt
+own_marked : (c : Counts) (kind i : ℕ) (v : Float) → T (marked (own_tests c kind i v))
+unfolding marked own_tests
+own_marked c kind i v = tt
 
 -- ---- the returns of the call
 

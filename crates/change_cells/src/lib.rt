@@ -1,214 +1,134 @@
 // Which cells of the matrix a change of a reading may move.
-#![tactic(auto)]
+#![tactic(auto, unfolding(change_table::specs::Table::among))]
 
-ghost use Rattle.std.specs.Prelude.{◌≡◌, ◌||◌, [], ◌∷◌, ◌++◌, ◌<◌, ◌≤◌};
-ghost use Rattle.network.specs.Layout.{size, wire};
-ghost use Rattle.network.specs.declared.Part.TheVariants.{BrFrom, BrTo};
+ghost use Rattle.std.specs.Prelude.{◌≡◌, ◌+◌, ◌<◌, ◌++◌, eqb};
+ghost use Rattle.network.specs.Layout.{size};
 ghost use Rattle.network.specs.declared.Field.TheVariants.{Sw, Susceptance};
 ghost use Rattle.network.specs.Numbers.{Wired};
-ghost use Rattle.kkt_index.specs.declared.Block.TheVariants.{Psh, LamLb, LamUb, MuLb, MuUb};
 ghost use Rattle.kkt_index.specs.Index.{start_in, Narrow};
-ghost use Rattle.change_table.specs.Table.{cells_of, cells_at, among, diagonal, against, both_ways, crossing, balance_cells};
+ghost use Rattle.change_table.specs.Table.{cells_of, cells_at, among, diagonal, against, both_ways, balance_cells};
 
 use kkt_index::{Block, KktIdx};
 use network::layout::{wide, word};
 use network::{Counts, Field, Part};
 
-fn either(a: bool, b: bool) -> bool
-    ensures { result ≡ (a || b) }
+// A row or a column: an index of a block.
+type Place = (Block, usize);
+
+// A row and a column.
+type Cell = (Place, Place);
+
+// The row and the column of the same index.
+fn diagonal(b: Block, i: usize) -> Cell
+    ensures { result ≡ ((b, i), (b, i)) }
 {
-    a || b
+    ((b, i), (b, i))
 }
 
-// Whether a triplet of this row and column is in the cell of two blocks' indexes.
-fn meets(x: KktIdx, a: Block, i: usize, b: Block, j: usize, row: u32, col: u32) -> bool
-    requires narrow { Narrow x }
-    requires i_bound { (i ≤ 0x1_0000) × (j ≤ 0x1_0000) }
-    ensures { result ≡ among (row, col) (cells_at (start_in x) (((a, i), (b, j)) ∷ [])) }
+// Whether a row or a column of the matrix stands at a place.
+fn stands_at(x: KktIdx, place: Place, at: u32) -> bool
+    requires { Narrow x }
+    ensures { result ≡ eqb at (start_in x place.0 + place.1) }
 {
-    wide(row) == x.start(a) + i && wide(col) == x.start(b) + j
+    let (block, i) = place;
+    wide(at).checked_sub(x.start(block)) == Some(i)
 }
 
-// The buses of a branch, which are few.
-fn from_bus(wiring: &[u32], c: Counts, e: usize) -> usize
-    requires wired { Wired c wiring.now }
-    requires e_lt_branches { e < c.branches }
-    ensures { (result ≡ wire c wiring.now BrFrom e) × (result ≤ 0x1_0000) }
+// Whether a triplet of this row and column is in one of some cells.
+fn is_among(x: KktIdx, cells: &[Cell], row: u32, col: u32) -> bool
+    requires { Narrow x }
+    ensures { result ≡ among (row, col) (cells_at (start_in x) cells.now) }
 {
-    word(wiring, c, Part::BrFrom, e)
-}
-
-fn to_bus(wiring: &[u32], c: Counts, e: usize) -> usize
-    requires wired { Wired c wiring.now }
-    requires e_lt_branches { e < c.branches }
-    ensures { (result ≡ wire c wiring.now BrTo e) × (result ≤ 0x1_0000) }
-{
-    word(wiring, c, Part::BrTo, e)
+    cells
+        .iter()
+        .any(|&(r, c)| stands_at(x, r, row) && stands_at(x, c, col))
 }
 
 // Row b+e against the angles of branch e's ends.
-fn is_against(wiring: &[u32], c: Counts, x: KktIdx, b: Block, e: usize, row: u32, col: u32) -> bool
+fn against(wiring: &[u32], c: Counts, b: Block, e: usize) -> [Cell; 2]
     requires wired { Wired c wiring.now }
-    requires narrow { Narrow x }
     requires e_lt_branches { e < c.branches }
-    ensures { result ≡ among (row, col) (cells_at (start_in x) (against c wiring.now b e)) }
+    ensures { result ≡ against c wiring.now b e }
 {
-    let from = from_bus(wiring, c, e);
-    let to = to_bus(wiring, c, e);
-    either(
-        meets(x, b, e, Block::Va, from, row, col),
-        meets(x, b, e, Block::Va, to, row, col),
-    )
+    let from = word(wiring, c, Part::BrFrom, e);
+    let to = word(wiring, c, Part::BrTo, e);
+    [((b, e), (Block::Va, from)), ((b, e), (Block::Va, to))]
 }
 
 // The same, and the angles' rows against column b+e.
-fn is_both_ways(
-    wiring: &[u32],
-    c: Counts,
-    x: KktIdx,
-    b: Block,
-    e: usize,
-    row: u32,
-    col: u32,
-) -> bool
+fn both_ways(wiring: &[u32], c: Counts, b: Block, e: usize) -> [Cell; 4]
     requires wired { Wired c wiring.now }
-    requires narrow { Narrow x }
     requires e_lt_branches { e < c.branches }
-    ensures { result ≡ among (row, col) (cells_at (start_in x) (both_ways c wiring.now b e)) }
+    ensures { result ≡ both_ways c wiring.now b e }
 {
-    let from = from_bus(wiring, c, e);
-    let to = to_bus(wiring, c, e);
-    either(
-        is_against(wiring, c, x, b, e, row, col),
-        either(
-            meets(x, Block::Va, from, b, e, row, col),
-            meets(x, Block::Va, to, b, e, row, col),
-        ),
-    )
-}
-
-// Row a of an end against column b of an end.
-fn is_crossing(
-    wiring: &[u32],
-    c: Counts,
-    x: KktIdx,
-    a: Block,
-    b: Block,
-    e: usize,
-    row: u32,
-    col: u32,
-) -> bool
-    requires wired { Wired c wiring.now }
-    requires narrow { Narrow x }
-    requires e_lt_branches { e < c.branches }
-    ensures { result ≡ among (row, col) (cells_at (start_in x) (crossing c wiring.now a b e)) }
-{
-    let from = from_bus(wiring, c, e);
-    let to = to_bus(wiring, c, e);
-    either(
-        either(
-            meets(x, a, from, b, from, row, col),
-            meets(x, a, from, b, to, row, col),
-        ),
-        either(
-            meets(x, a, to, b, from, row, col),
-            meets(x, a, to, b, to, row, col),
-        ),
-    )
+    let from = word(wiring, c, Part::BrFrom, e);
+    let to = word(wiring, c, Part::BrTo, e);
+    [
+        ((b, e), (Block::Va, from)),
+        ((b, e), (Block::Va, to)),
+        ((Block::Va, from), (b, e)),
+        ((Block::Va, to), (b, e)),
+    ]
 }
 
 // The cells where the balances of branch e's ends meet their angles.
-fn is_balance(wiring: &[u32], c: Counts, x: KktIdx, e: usize, row: u32, col: u32) -> bool
+fn balance_cells(wiring: &[u32], c: Counts, e: usize) -> [Cell; 8]
     requires wired { Wired c wiring.now }
-    requires narrow { Narrow x }
     requires e_lt_branches { e < c.branches }
-    ensures { result ≡ among (row, col) (cells_at (start_in x) (balance_cells c wiring.now e)) }
+    ensures { result ≡ balance_cells c wiring.now e }
 {
-    either(
-        is_crossing(wiring, c, x, Block::NuBal, Block::Va, e, row, col),
-        is_crossing(wiring, c, x, Block::Va, Block::NuBal, e, row, col),
-    )
+    let from = word(wiring, c, Part::BrFrom, e);
+    let to = word(wiring, c, Part::BrTo, e);
+    [
+        ((Block::NuBal, from), (Block::Va, from)),
+        ((Block::NuBal, from), (Block::Va, to)),
+        ((Block::NuBal, to), (Block::Va, from)),
+        ((Block::NuBal, to), (Block::Va, to)),
+        ((Block::Va, from), (Block::NuBal, from)),
+        ((Block::Va, from), (Block::NuBal, to)),
+        ((Block::Va, to), (Block::NuBal, from)),
+        ((Block::Va, to), (Block::NuBal, to)),
+    ]
 }
 
-// The cells of a branch's switch.
-fn is_of_sw(wiring: &[u32], c: Counts, x: KktIdx, e: usize, row: u32, col: u32) -> bool
-    requires wired { Wired c wiring.now }
-    requires narrow { Narrow x }
-    requires e_lt_branches { e < c.branches }
-    ensures { result ≡ among (row, col) (cells_at (start_in x) (cells_of c wiring.now Sw e)) }
-{
-    either(
-        is_both_ways(wiring, c, x, Block::GammaLb, e, row, col),
-        either(
-            is_both_ways(wiring, c, x, Block::GammaUb, e, row, col),
-            either(
-                is_both_ways(wiring, c, x, Block::NuFlow, e, row, col),
-                either(
-                    meets(x, Block::GammaLb, e, Block::GammaLb, e, row, col),
-                    either(
-                        meets(x, Block::GammaUb, e, Block::GammaUb, e, row, col),
-                        is_balance(wiring, c, x, e, row, col),
-                    ),
-                ),
-            ),
-        ),
-    )
-}
-
-// The cells of a branch's susceptance.
+// Whether a triplet is in a cell of a branch's susceptance.
 fn is_of_susceptance(wiring: &[u32], c: Counts, x: KktIdx, e: usize, row: u32, col: u32) -> bool
     requires wired { Wired c wiring.now }
     requires narrow { Narrow x }
     requires e_lt_branches { e < c.branches }
     ensures { result ≡ among (row, col) (cells_at (start_in x) (cells_of c wiring.now Susceptance e)) }
 {
-    either(
-        is_both_ways(wiring, c, x, Block::NuFlow, e, row, col),
-        is_balance(wiring, c, x, e, row, col),
-    )
+    is_among(x, &both_ways(wiring, c, Block::NuFlow, e), row, col)
+        || is_among(x, &balance_cells(wiring, c, e), row, col)
 }
 
-// The cells of an angle limit, whose dual is b+e.
+// Whether a triplet is in a cell of a branch's switch.
+fn is_of_sw(wiring: &[u32], c: Counts, x: KktIdx, e: usize, row: u32, col: u32) -> bool
+    requires wired { Wired c wiring.now }
+    requires narrow { Narrow x }
+    requires e_lt_branches { e < c.branches }
+    ensures { result ≡ among (row, col) (cells_at (start_in x) (cells_of c wiring.now Sw e)) }
+{
+    is_among(x, &both_ways(wiring, c, Block::GammaLb, e), row, col)
+        || is_among(x, &both_ways(wiring, c, Block::GammaUb, e), row, col)
+        || is_among(x, &both_ways(wiring, c, Block::NuFlow, e), row, col)
+        || is_among(
+            x,
+            &[diagonal(Block::GammaLb, e), diagonal(Block::GammaUb, e)],
+            row,
+            col,
+        )
+        || is_among(x, &balance_cells(wiring, c, e), row, col)
+}
+
+// Whether a triplet is in a cell of an angle limit, whose dual is b+e.
 fn is_of_angle(wiring: &[u32], c: Counts, x: KktIdx, b: Block, e: usize, row: u32, col: u32) -> bool
     requires wired { Wired c wiring.now }
     requires narrow { Narrow x }
     requires e_lt_branches { e < c.branches }
     ensures { result ≡ among (row, col) (cells_at (start_in x) (against c wiring.now b e ++ diagonal b e)) }
 {
-    either(
-        is_against(wiring, c, x, b, e, row, col),
-        meets(x, b, e, b, e, row, col),
-    )
-}
-
-// The cells of a bus's demand.
-fn is_of_demand(x: KktIdx, i: usize, row: u32, col: u32) -> bool
-    requires narrow { Narrow x }
-    requires i_bound { i ≤ 0x1_0000 }
-    ensures { result ≡ among (row, col) (cells_at (start_in x) (((MuLb, i), (Psh, i)) ∷ ((MuUb, i), (Psh, i)) ∷ (diagonal MuLb i ++ diagonal MuUb i))) }
-{
-    either(
-        either(
-            meets(x, Block::MuLb, i, Block::Psh, i, row, col),
-            meets(x, Block::MuUb, i, Block::Psh, i, row, col),
-        ),
-        either(
-            meets(x, Block::MuLb, i, Block::MuLb, i, row, col),
-            meets(x, Block::MuUb, i, Block::MuUb, i, row, col),
-        ),
-    )
-}
-
-// The diagonals of a branch's thermal limit.
-fn is_of_fmax(x: KktIdx, e: usize, row: u32, col: u32) -> bool
-    requires narrow { Narrow x }
-    requires e_bound { e ≤ 0x1_0000 }
-    ensures { result ≡ among (row, col) (cells_at (start_in x) (diagonal LamLb e ++ diagonal LamUb e)) }
-{
-    either(
-        meets(x, Block::LamLb, e, Block::LamLb, e, row, col),
-        meets(x, Block::LamUb, e, Block::LamUb, e, row, col),
-    )
+    is_among(x, &against(wiring, c, b, e), row, col) || is_among(x, &[diagonal(b, e)], row, col)
 }
 
 // Whether a triplet of this row and column is in a cell that a change of a reading may move.
@@ -227,26 +147,42 @@ pub fn is_named(
     ensures { result ≡ among (row, col) (cells_at (start_in x) (cells_of c wiring.now f i)) }
 {
     match f {
-        Field::BaseMva => false,
-        Field::Susceptance => is_of_susceptance(wiring, c, x, i, row, col),
+        Field::Demand => is_among(
+            x,
+            &[
+                ((Block::MuLb, i), (Block::Psh, i)),
+                ((Block::MuUb, i), (Block::Psh, i)),
+                diagonal(Block::MuLb, i),
+                diagonal(Block::MuUb, i),
+            ],
+            row,
+            col,
+        ),
+        Field::Fmax => is_among(
+            x,
+            &[diagonal(Block::LamLb, i), diagonal(Block::LamUb, i)],
+            row,
+            col,
+        ),
         Field::Sw => is_of_sw(wiring, c, x, i, row, col),
-        Field::Shift => false,
-        Field::FlowOffset => false,
-        Field::Fmax => is_of_fmax(x, i, row, col),
+        Field::Susceptance => is_of_susceptance(wiring, c, x, i, row, col),
         Field::Angmin => is_of_angle(wiring, c, x, Block::GammaLb, i, row, col),
         Field::Angmax => is_of_angle(wiring, c, x, Block::GammaUb, i, row, col),
-        Field::Gmin => meets(x, Block::RhoLb, i, Block::RhoLb, i, row, col),
-        Field::Gmax => meets(x, Block::RhoUb, i, Block::RhoUb, i, row, col),
-        Field::Cq => meets(x, Block::Pg, i, Block::Pg, i, row, col),
-        Field::Cl => false,
-        Field::Cc => false,
-        Field::CShed => false,
-        Field::Demand => is_of_demand(x, i, row, col),
-        Field::ShuntConductance => false,
-        Field::HvdcInjection => false,
-        Field::Slopes => false,
-        Field::Intercepts => false,
-        Field::UpperMw => false,
-        Field::LowerMw => false,
+        Field::Cq => is_among(x, &[diagonal(Block::Pg, i)], row, col),
+        Field::Gmin => is_among(x, &[diagonal(Block::RhoLb, i)], row, col),
+        Field::Gmax => is_among(x, &[diagonal(Block::RhoUb, i)], row, col),
+        // No change sets the others.
+        Field::BaseMva
+        | Field::Shift
+        | Field::FlowOffset
+        | Field::Cl
+        | Field::Cc
+        | Field::CShed
+        | Field::ShuntConductance
+        | Field::HvdcInjection
+        | Field::Slopes
+        | Field::Intercepts
+        | Field::UpperMw
+        | Field::LowerMw => false,
     }
 }

@@ -1,9 +1,9 @@
--- A run of changes by its last one: what it has left and written so far. Main results: `after_more`, `lines_more`; `begin`, `more`; `run_uneven`, `run_short_numbers`, `run_short_counts`, `run_done`. Assumes nothing.
+-- A run of changes by its last one: what it has left and written so far. Main results: `after_more`, `lines_more`; `begin`, `more`; `run_uneven`, `run_short`, `run_done`. Assumes nothing.
 use mathlib.Core.Path.{◌≡◌, refl, sym, ap, ◌∙◌}
+use mathlib.Core.Logic.{◌⊎◌, inl, inr}
 use mathlib.Core.List.{List, [], ◌∷◌, ◌++◌, map}
 use Prim.Native.Nat.{ℕ, suc, ◌+◌, ◌/◌, ◌%◌, ◌≤◌, ◌<◌}
 use native.Mathlib.Numerals.{add-one}
-use native.Mathlib.Nat.{le_antisymm}
 use native.Mathlib.Omega.{arith}
 use lib.ListN.{length, set, length-set, length-map}
 use borrow.Author.Tests.{eq-eqb, ne_eqb, lt-ltb, le-ltb}
@@ -12,7 +12,7 @@ use Rattle.sequence.specs.Answers.{Test, first_of}
 use Rattle.sequence.proofs.Lists.{made_length}
 use Rattle.sequence.proofs.Fronts.{front_more}
 use Rattle.kkt.specs.Slots.{Rule}
-use Rattle.job_book.specs.Book.{Change, Given, Words, Line, line, step, lines, words_after, change_at, numbers_of, counts_of_lines, ran, run_number, run_call}
+use Rattle.job_book.specs.Book.{Change, Given, Words, Line, line, Outcome, outcome, step, lines, words_after, change_at, numbers_of, counts_of_lines, ran, run_number, run_call}
 
 module _ (G : Given) (rule : Rule) (further : Words → Change → List Test) where
   abbrev after : Words → List Change → Words
@@ -63,25 +63,24 @@ module _ (G : Given) (rule : Rule) (further : Words → Change → List Test) wh
   unfolding made front lines words_after
   begin W ws ns ks = record { left = refl; numbers = refl; counts = refl; numbers_kept = refl; counts_kept = refl }
 
-  pub more : {W U U' : Words} {ws ns ks ns' ks' ns'' ks'' : List ℕ} {i : ℕ} → i < length ns → i < length ks → Going W ws ns ks i U ns' ks'
-      → U' ≡ (step G rule further U (change_at ws i)).left
-      → ns'' ≡ set ns' i (step G rule further U (change_at ws i)).number
-      → ks'' ≡ set ks' i (step G rule further U (change_at ws i)).count
-      → Going W ws ns ks (i + 1) U' ns'' ks''
+  pub more : {W U U' : Words} {ws ns ks ns' ks' : List ℕ} {i n k x y : ℕ} → i < length ns → i < length ks → Going W ws ns ks i U ns' ks'
+      → outcome n k U' ≡ step G rule further U (change_at ws i) → x ≡ n → y ≡ k
+      → Going W ws ns ks (i + 1) U' (set ns' i x) (set ks' i y)
   unfolding made
-  more {W} {U} {U'} {ws} {ns} {ks} {ns'} {ks'} {ns''} {ks''} {i} hn hk g a b d =
+  more {W} {U} {U'} {ws} {ns} {ks} {ns'} {ks'} {i} {n} {k} {x} {y} hn hk g e p q =
       let hs : List Change = made (change_at ws) i in
       let l : length hs ≡ i = made_length (change_at ws) i in
+      let f : outcome n k U' ≡ step G rule further (after W hs) (change_at ws i) = rw g.left at e in
       record {
-        left = rw add-one (a ∙ ap (λ (Q : Words). (step G rule further Q (change_at ws i)).left) g.left ∙ sym (after_more W hs (change_at ws i)));
+        left = rw add-one (ap (λ (o : Outcome). o.left) f ∙ sym (after_more W hs (change_at ws i)));
         numbers =
-            rw add-one (b ∙ ap (λ (Q : Words). set ns' i (step G rule further Q (change_at ws i)).number) g.left
+            rw add-one (ap (set ns' i) (p ∙ ap (λ (o : Outcome). o.number) f)
             ∙ column_more (λ (l : Line). l.number) W hs (change_at ws i) i ns ns' l hn g.numbers);
         counts =
-            rw add-one (d ∙ ap (λ (Q : Words). set ks' i (step G rule further Q (change_at ws i)).count) g.left
+            rw add-one (ap (set ks' i) (q ∙ ap (λ (o : Outcome). o.count) f)
             ∙ column_more (λ (l : Line). l.count) W hs (change_at ws i) i ks ks' l hk g.counts);
-        numbers_kept = ap (λ (l : List ℕ). length l) b ∙ length-set ns' i _ ∙ g.numbers_kept;
-        counts_kept = ap (λ (l : List ℕ). length l) d ∙ length-set ks' i _ ∙ g.counts_kept;
+        numbers_kept = length-set ns' i x ∙ g.numbers_kept;
+        counts_kept = length-set ks' i y ∙ g.counts_kept;
       }
 
   -- ---- the returns
@@ -95,22 +94,17 @@ module _ (G : Given) (rule : Rule) (further : Words → Change → List Test) wh
     unfolding run_number first_of
     run_uneven h = refused (rw (ne_eqb (length ws % 3) 0 h)) (λ z. absurd (omega arith))
 
-    pub run_short_numbers : length ws % 3 ≡ 0 → length ns < length ws / 3 → ran 7 0 W ns ks ≡ run_call G rule further W ws ns ks
+    pub run_short : length ws % 3 ≡ 0 → length ns < length ws / 3 ⊎ ((length ws / 3 ≤ length ns) × (length ks < length ws / 3)) → ran 7 0 W ns ks ≡ run_call G rule further W ws ns ks
     unfolding run_number first_of
-    run_short_numbers h l = refused (rw (eq-eqb (length ws % 3) 0 h, lt-ltb (length ns) (length ws / 3) l)) (λ z. absurd (omega arith))
-
-    pub run_short_counts : length ws % 3 ≡ 0 → length ws / 3 ≤ length ns → length ks < length ws / 3 → ran 7 0 W ns ks ≡ run_call G rule further W ws ns ks
-    unfolding run_number first_of
-    run_short_counts h n l =
+    run_short h (inl l) = refused (rw (eq-eqb (length ws % 3) 0 h, lt-ltb (length ns) (length ws / 3) l)) (λ z. absurd (omega arith))
+    run_short h (inr (n, l)) =
         refused (rw (eq-eqb (length ws % 3) 0 h, le-ltb (length ns) (length ws / 3) n, lt-ltb (length ks) (length ws / 3) l)) (λ z. absurd (omega arith))
 
     run_number_lem : length ws % 3 ≡ 0 → length ws / 3 ≤ length ns → length ws / 3 ≤ length ks → run_number ws ns ks ≡ 0
     unfolding run_number first_of
     run_number_lem h n k = rw (eq-eqb (length ws % 3) 0 h, le-ltb (length ns) (length ws / 3) n, le-ltb (length ks) (length ws / 3) k)
 
-    pub run_done : {n i : ℕ} {U : Words} {ns' ks' : List ℕ} → length ws % 3 ≡ 0 → length ws / 3 ≤ length ns → length ws / 3 ≤ length ks
-        → n ≡ length ws / 3 → i ≤ n → n ≤ i → Going W ws ns ks i U ns' ks' → ran 0 n U ns' ks' ≡ run_call G rule further W ws ns ks
+    pub run_done : {i : ℕ} {U : Words} {ns' ks' : List ℕ} → length ws % 3 ≡ 0 → length ws / 3 ≤ length ns → length ws / 3 ≤ length ks
+        → i ≡ length ws / 3 → Going W ws ns ks i U ns' ks' → ran 0 (length ws / 3) U ns' ks' ≡ run_call G rule further W ws ns ks
     unfolding run_call
-    run_done {n} {i} {U} {ns'} {ks'} h a b e p q g =
-        let z : i ≡ length ws / 3 = le_antisymm p q ∙ e in
-        rw (run_number_lem h a b, g.left, g.numbers, g.counts, z, e)
+    run_done h a b e g = rw (run_number_lem h a b, g.left, g.numbers, g.counts, e)

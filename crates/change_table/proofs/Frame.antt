@@ -1,6 +1,6 @@
 -- A change of one reading leaves every cell that the table does not name as it was; and it moves no row's shape, so no cell's place.
 -- Main results: `shapes_same`, `named_same`, `frame`. Assumes nothing.
-use Prim.Native.Nat.{ℕ, zero, suc, ◌+◌, ◌≤◌, ◌<◌}
+use Prim.Native.Nat.{ℕ, zero, suc, ◌≤◌, ◌<◌}
 use mathlib.Core.Path.{◌≡◌, refl, sym, ap, ap₂, subst, ◌∙◌}
 use mathlib.Core.Logic.{inl, inr}
 use mathlib.Core.Bool.{Bool, true, false, not}
@@ -15,7 +15,8 @@ use lib.Ieee.Bits.{is_true}
 use borrow.Author.Tests.{eqb-true, eq-eqb, leb-true}
 use Rattle.float64.specs.Values.{nought}
 use Rattle.sequence.specs.Lists.{every, when}
-use Rattle.sequence.specs.Sheets.{Triplet, triplet, emit}
+use Rattle.sequence.specs.declared.Triplet.{Triplet}
+use Rattle.sequence.specs.Sheets.{item, emit}
 use Rattle.sequence.proofs.Lists.{and_left, and_right, every_at, before_same, each_same}
 use Rattle.sequence.specs.Facts.{All}
 use Rattle.sequence.specs.Facts.All.{done, ◌&◌}
@@ -59,9 +60,10 @@ among_at start p (q ∷ ps) (inr h) =
 
 -- ---- a cell's values, for any slots and any two sets of readings
 
-at_head : (t : Bool) (r k : ℕ) (z : Float) (ts : List Triplet) (x : Cell)
-    → values_at (when t (triplet r k z ∷ []) ++ ts) x ≡ when t (when (same_cell (r, k) x) (z ∷ [])) ++ values_at ts x
-unfolding values_at when
+-- those of a list that begins with a triplet or none
+pub at_head : (t : Bool) (r k : ℕ) (z : Float) (ts : List Triplet) (x : Cell)
+    → values_at (emit (item t r k z) ++ ts) x ≡ when t (when (same_cell (r, k) x) (z ∷ [])) ++ values_at ts x
+unfolding values_at emit when
 at_head true r k z ts x = refl
 at_head false r k z ts x = refl
 
@@ -81,7 +83,7 @@ module _ (start : Block → ℕ) (R Q : Field → ℕ → Float) (S : Entry → 
 
   values_same : {ss : List Slot} → All (λ s. same_cell (cell_of s) x ≡ true → eval R S s.what ≡ eval Q S s.what) ss
       → values_at (emitted start R S ss) x ≡ values_at (emitted start Q S ss) x
-  unfolding emitted emit
+  unfolding emitted
   values_same done = refl
   values_same (◌&◌ {x = s} {xs = ss} h hs) =
       at_head _ _ _ (eval R S s.what) (emitted start R S ss) x

@@ -16,7 +16,8 @@ use Rattle.float64.specs.Values.{nought, one, tolerance, whole, max_zero, finite
 use Rattle.sequence.specs.Lists.{when, each, before, some, every}
 use Rattle.sequence.proofs.Lists.{and_left, and_right, every_at}
 use Rattle.sequence.specs.Answers.{first_of}
-use Rattle.sequence.specs.Sheets.{Triplet, emit}
+use Rattle.sequence.specs.declared.Triplet.{Triplet}
+use Rattle.sequence.specs.Sheets.{emit}
 use Rattle.network.specs.declared.Counts.{Counts}
 use Rattle.network.specs.Layout.{counts_of, size, place, field_start, wire, part_start, reading, segment_start, term_start}
 use Rattle.network.specs.Numbers.{Network, network_number, sizes_hold, few, lengths_hold, sums_hold, wiring_holds, part_holds, terms_hold, flow_terms_hold, generation_terms_hold, readings_hold, field_holds, in_rank, all_within}

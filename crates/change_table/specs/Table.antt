@@ -2,7 +2,7 @@
 -- Main definitions: `kinds`, `cells_of`, `named_cells`, `values_at`. Assumes nothing.
 use Rattle.std.specs.Prelude.{ℕ, ◌+◌, ◌-◌, Bool, true, false, not, ◌&&◌, ◌||◌, List, [], ◌∷◌, ◌++◌, map, length, get_or, eqb, leb, Float}
 use Rattle.sequence.specs.Lists.{when}
-use Rattle.sequence.specs.Sheets.{Triplet}
+use Rattle.sequence.specs.declared.Triplet.{Triplet}
 use Rattle.network.specs.declared.Counts.{Counts}
 use Rattle.network.specs.declared.Field.{Field}
 use Rattle.network.specs.declared.Field.TheVariants.{BaseMva, Susceptance, Sw, Shift, FlowOffset, Fmax, Angmin, Angmax, Gmin, Gmax, Cq, Cl, Cc, CShed, Demand, ShuntConductance, HvdcInjection, Slopes, Intercepts, UpperMw, LowerMw}

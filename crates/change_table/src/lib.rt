@@ -1,9 +1,8 @@
 // Site changes: the reading that each kind sets, and the cells of the matrix that it names.
 #![tactic(auto)]
 
-ghost use Rattle.std.specs.Prelude.{◌≡◌, true, ◌<◌, ◌≤◌, get_or};
-ghost use Rattle.network.specs.declared.Field.TheVariants.{BaseMva};
-ghost use Rattle.change_table.specs.Table.{kinds, is_kind, field_of};
+ghost use Rattle.std.specs.Prelude.{◌≡◌, true, ◌<◌, ◌≤◌};
+ghost use Rattle.change_table.specs.Table.{is_kind, field_of};
 
 use network::Field;
 
@@ -19,29 +18,17 @@ const KINDS: [Field; 9] = [
     Field::Gmax,
 ];
 
-fn kind_at(k: usize) -> Field
-    requires { k < 9 }
-    ensures { result ≡ get_or kinds k BaseMva }
-{
-    KINDS[k]
-}
-
 // The reading that a kind sets.
 pub fn field_of(kind: usize) -> Field
     requires { (0 < kind) × (kind ≤ 9) }
     ensures { result ≡ field_of kind }
 {
-    kind_at(kind - 1)
+    KINDS[kind - 1]
 }
 
+// Whether a number is a kind.
 pub fn is_kind(kind: usize) -> bool
     ensures { (result ≡ is_kind kind) × (result ≡ true → (0 < kind) × (kind ≤ 9)) }
 {
-    if kind < 1 {
-        return false;
-    }
-    if 9 < kind {
-        return false;
-    }
-    true
+    0 < kind && kind <= 9
 }

@@ -1,20 +1,20 @@
 -- Columns lie within their sheet, and an element's entries within the slices.
--- Main results: `inside`, `column_inside`, `column_long`, `forward_inside`, `adjoint_inside`, `starts_none`, `starts_more`, `entered_run`, `contracted_long`, `selection_long`. Assumes nothing.
+-- Main results: `inside`, `column_inside`, `column_long`, `part_stored`, `front_whole`, `starts_none`, `starts_more`, `entered_run`, `contracted_long`, `selection_long`. Assumes nothing.
 use mathlib.Core.Path.{◌≡◌, refl, sym, ◌∙◌}
-use mathlib.Core.List.{List, append_assoc}
+use mathlib.Core.List.{List, ◌++◌, append-nil, append_assoc}
 use Prim.Native.Nat.{ℕ, zero, suc, ◌+◌, ◌-◌, ◌*◌, ◌≤◌, ◌<◌}
 use native.Mathlib.Nat.{zero-mul, suc-mul, mul_comm, mul-le-mul_right, le_trans}
 use native.Mathlib.Numerals.{add-one}
 use native.Mathlib.Omega.{arith}
-use lib.ListN.{length, take, drop, length-append, length-take, length-drop}
-use lib.Seq.{sets, sets-eq, drop-drop}
+use lib.ListN.{length, take, drop, replicate, length-append, length-take, length-drop}
+use lib.Seq.{sets, sets-eq, drop-length, drop-drop}
+use Rattle.std.proofs.lemmas.List.{length-replicate, replicate-append-replicate, replicate_more}
 use borrow.Rule.Slice.PartMut.{put_mid}
 use lib.Ieee.{Float}
-use Rattle.sequence.specs.Lists.{before, each}
+use Rattle.sequence.specs.Lists.{before, each, made, front}
 use Rattle.sequence.proofs.Lists.{before_more, before_within, made_length}
 use Rattle.interface.specs.declared.Mode.{Mode}
-use Rattle.interface.specs.declared.Mode.TheVariants.{Forward, Adjoint}
-use Rattle.contraction.specs.Contraction.{Selector, elements, entries_at, entry_start, selection_column, selection_sheet, column, contracted_row, contracted, Run, Entered, Sided}
+use Rattle.contraction.specs.Contraction.{Selector, elements, entries_at, entry_start, selection_column, selection_sheet, column, contracted_row, contracted, Run, Entered}
 
 -- one of n columns, or of n rows of out
 pub inside : (dim c n size : ℕ) → c < n → n * dim ≤ size → c * dim + dim ≤ size
@@ -31,6 +31,10 @@ column_inside dim c n size l h = inside dim c n size l (rw mul_comm at h)
 pub column_room : (dim c n size : ℕ) {at : ℕ} → at ≡ c * dim → c < n → dim * n ≤ size → at + dim ≤ size
 column_room dim c n size e l h = rw e (column_inside dim c n size l h)
 
+-- a place that is row r's start
+pub row_room : (k r n size : ℕ) {at : ℕ} → at ≡ r * k → r < n → n * k ≤ size → at + k ≤ size
+row_room k r n size e l h = rw e (inside k r n size l h)
+
 -- k words from a place on: as many as they are, and where they are put back
 pub part_long : {A : Type 0} (at dim : ℕ) (sheet : List A) → at + dim ≤ length sheet → length (take (at + dim - at) (drop at sheet)) ≡ dim
 part_long at dim sheet h = simp (length-take, length-drop) (omega arith)
@@ -45,16 +49,28 @@ pub column_long : (dim : ℕ) (sheet : List Float) (c : ℕ) → c * dim + dim �
 unfolding column
 column_long dim sheet c h = simp (length-take, length-drop) (omega arith)
 
--- the solved column of a parameter column, and of an element
-module _ {mode : Mode} {dim columns elements : ℕ} {parameter solved : List Float} (s : Sided mode dim columns elements parameter solved) where
-  pub parameter_inside : (c : ℕ) → c < columns → c * dim + dim ≤ length parameter
-  parameter_inside c h = column_inside dim c columns (length parameter) h s.in_parameter
+-- a front as long as its sheet is all of it
+pub front_whole : {A : Type 0} (f : ℕ → A) (old : List A) → front (made f (length old)) old ≡ made f (length old)
+unfolding front
+front_whole f old = rw (made_length, drop-length, append-nil)
 
-  pub forward_inside : mode ≡ Forward → (c : ℕ) → c < columns → c * dim + dim ≤ length solved
-  forward_inside e c h = column_inside dim c columns (length solved) h (rw e at s.in_solved)
+-- one word throughout
+made_alike : {A : Type 0} (v : A) (k : ℕ) → made (λ c. v) k ≡ replicate k v
+unfolding made
+made_alike v zero = refl
+made_alike v (suc k) = rw (made_alike v k, replicate_more, add-one)
 
-  pub adjoint_inside : mode ≡ Adjoint → (o : ℕ) → o < elements → o * dim + dim ≤ length solved
-  adjoint_inside e o h = column_inside dim o elements (length solved) h (rw e at s.in_solved)
+rows_alike : {A : Type 0} (v : A) (n k : ℕ) → each n (λ o. made (λ c. v) k) ≡ replicate (n * k) v
+unfolding each
+rows_alike v zero k = rw zero-mul
+rows_alike v (suc n) k = rw (rows_alike v n k, made_alike v k, replicate-append-replicate, suc-mul)
+
+pub alike_front : {A : Type 0} (v : A) (n k : ℕ) (out : List A) {new : List A} → n * k ≤ length out → new ≡ replicate (length (take (n * k) out)) v
+    → new ++ drop (n * k) out ≡ front (each n (λ o. made (λ c. v) k)) out
+unfolding front
+alike_front v n k out h e =
+    let z : length (take (n * k) out) ≡ n * k = simp length-take (omega arith) in
+    rw (e, z, rows_alike v n k, length-replicate)
 
 -- ---- entries
 

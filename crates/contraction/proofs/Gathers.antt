@@ -1,19 +1,24 @@
 -- A parameter column's entries, gathered word by word.
--- Main results: `none`, `skip` (a word that is zero), `skips` (so many of them), `more` (a word that is not). Assumes nothing.
+-- Main results: `zero_is`, `none`, `skip` (a word that is zero), `skips` (so many of them), `more` (a word that is not). Assumes nothing.
 use mathlib.Core.Path.{◌≡◌, refl, sym, ◌∙◌}
-use mathlib.Core.Bool.{Bool, true, false, not}
+use mathlib.Core.Bool.{Bool, true, false, not, not-not}
 use mathlib.Core.List.{List}
 use Prim.Native.Nat.{ℕ, zero, suc, ◌+◌, ◌<◌}
 use native.Mathlib.Nat.{not-suc-le-zero, zero-add, add-zero}
 use native.Mathlib.Omega.{arith}
 use lib.ListN.{length, get_or, set, length-set}
 use lib.Seq.{get_or-set_same, get_or-set_other}
-use lib.Ieee.{Float, nan, binary64, add, mul, ne}
+use lib.Ieee.{Float, nan, binary64, add, mul, eq, ne}
 use Rattle.float64.specs.Values.{nought}
 use Rattle.sequence.specs.Lists.{every, turns}
 use Rattle.sequence.proofs.Lists.{and_left, and_right, turns_more, turns_same, stored_at}
 use Rattle.model.specs.Quantities.{term_sum}
 use Rattle.contraction.specs.Contraction.{gathered, Gathers}
+
+-- a word that equals 0 is a zero, of either sign
+pub zero_is : (v : Float) → eq v nought ≡ not (ne v nought)
+unfolding ne
+zero_is v = sym (not-not (eq v nought))
 
 pub none : (rows : List ℕ) (values parameter : List Float) → Gathers rows values 0 0 parameter
 unfolding term_sum gathered turns

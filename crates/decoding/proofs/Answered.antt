@@ -1,18 +1,18 @@
 -- The laws of a call's answer on bytes: a result that goes by way of cells, and a call that is refused at once. Assumes nothing.
 use mathlib.Core.Path.{◌≡◌, refl, sym, ap, ◌∙◌}
-use mathlib.Core.Bool.{Bool, true, false, cond, not, ◌&&◌}
+use mathlib.Core.Bool.{Bool, true, false, cond, ◌&&◌}
 use mathlib.Core.List.{List, [], ◌∷◌, ◌++◌}
-use Prim.Native.Nat.{ℕ, ◌+◌, ◌/◌, ◌≤◌, ◌<◌}
+use Prim.Native.Nat.{ℕ, ◌/◌, ◌≤◌, ◌<◌}
 use native.Mathlib.Omega.{arith}
 use native.Mathlib.Decide.{ℕ_discrete, dec_lt}
 use lib.Dec.{T, eqb, ltb, leb}
 use lib.ListN.{length, take}
 use lib.Seq.{length-take-le}
 use lib.Ieee.{Float}
-use borrow.Author.Tests.{lt-ltb, le-ltb, ltb-false, eqb-true, not-true, not-false}
+use borrow.Author.Tests.{lt-ltb, le-ltb, ltb-false, eqb-true}
 use Rattle.sequence.specs.Lists.{front, made}
 use Rattle.sequence.specs.Answers.{Test, test, first_of, marked, short, Filled, filled, fills}
-use Rattle.sequence.proofs.Lists.{and_left, and_right, failed, held as kept, made_length, never}
+use Rattle.sequence.proofs.Lists.{and_left, and_right, made_length, never}
 use Rattle.sequence.proofs.Answers.{holding, first_stands, rest_passed}
 use Rattle.words.specs.Words.{double_at, doubles_of, joined}
 use Rattle.sequence.proofs.Fronts.{take_front}
@@ -20,9 +20,8 @@ use Rattle.network.specs.Layout.{Few, counts_of}
 use Rattle.network.specs.Numbers.{Network, network_tests, network_number, sizes_hold, wiring_holds, readings_hold, Accepted}
 use Rattle.model.specs.Calls.{row_kind_number, row_kind_call, counted, element_number, element_call, sheet_number, bus_call}
 use Rattle.network.proofs.Tests.{number_size, sized_few, accepted}
-use Rattle.decoding.specs.declared.Lengths.{Lengths}
 use Rattle.decoding.specs.Exports.{Out, out, packed, whole, filled_out}
-use Rattle.decoding.specs.Decoding.{fits, Arrays, Read, Cells}
+use Rattle.decoding.specs.Decoding.{fits, Cells}
 use Rattle.decoding.proofs.Decoded.{contrary, fits_of, whole_of}
 
 -- ---- a result's bytes do not depend on the sheet that it is cut from
@@ -165,8 +164,8 @@ own_true true true e = e
 own_true true false e = refl
 
 -- a network that was not decoded, in a call with no sizes of its own
-pub unsized : {ok : Bool} {N : Network} {l : Lengths} {A : Arrays} → Read ok N l A → not l.ok ≡ true → ok && (sizes_hold N && true) ≡ false
-unsized {ok} {N} r h = own_true ok (sizes_hold N) (r.refused (not-true _ h))
+pub unsized : (ok : Bool) (N : Network) → ok && sizes_hold N ≡ false → ok && (sizes_hold N && true) ≡ false
+unsized ok N h = own_true ok (sizes_hold N) h
 
 -- ---- an export whose slices were decoded
 
@@ -181,35 +180,29 @@ told f {N = N} e q = ap (f true) q ∙ ap (λ (t : Bool). f t N) (sym e)
 
 -- the number of a network alone
 
-number_by : (N : Network) (ok : Bool) → ok && sizes_hold N ≡ false → 1 ≡ cond ok (network_number N) 1
+pub number_one : (ok : Bool) (N : Network) → ok && sizes_hold N ≡ false → 1 ≡ cond ok (network_number N) 1
 unfolding network_number
-number_by N true e = number_size N true true e
-number_by N false e = refl
-
-pub number_one : {ok : Bool} {N : Network} {l : Lengths} {A : Arrays} → Read ok N l A → not l.ok ≡ true → 1 ≡ cond ok (network_number N) 1
-number_one {ok} {N} r h = number_by N ok (r.refused (not-true _ h))
+number_one true N e = number_size N true true e
+number_one false N e = refl
 
 kind_number : (N : Network) (q : ℕ) → sizes_hold N ≡ false → row_kind_number N q ≡ 1
 unfolding row_kind_number
 kind_number N q e = size_fails N true true _ true (own_true true (sizes_hold N) e) refl
 
 -- a row's kind: number and kind in one word
-kind_by : (N : Network) (q : ℕ) (ok : Bool) → ok && sizes_hold N ≡ false → 1 ≡ cond ok (packed (row_kind_call N q).number (row_kind_call N q).kind) 1
+pub kind_one : (ok : Bool) (N : Network) (q : ℕ) → ok && sizes_hold N ≡ false → 1 ≡ cond ok (packed (row_kind_call N q).number (row_kind_call N q).kind) 1
 unfolding row_kind_call
-kind_by N q false e = refl
-kind_by N q true e = rw (kind_number N q e)
-
-pub kind_one : {ok : Bool} {N : Network} {l : Lengths} {A : Arrays} (q : ℕ) → Read ok N l A → not l.ok ≡ true → 1 ≡ cond ok (packed (row_kind_call N q).number (row_kind_call N q).kind) 1
-kind_one {ok} {N} q r h = kind_by N q ok (r.refused (not-true _ h))
+kind_one false N q e = refl
+kind_one true N q e = rw (kind_number N q e)
 
 -- ---- a call with one slice of doubles of its own, whose length is one of its sizes
 
 module _ (N : Network) (ok : Bool) (own : List ℕ) (sizes : Bool) where
-  pub unsized_beside : {l : Lengths} {A : Arrays} → Read ok N l A → not l.ok ≡ true → (ok && whole 8 own) && (sizes_hold N && sizes) ≡ false
-  unsized_beside r h = contrary _ _ (λ e. rw (and_left ok _ (and_left (ok && whole 8 own) _ e), and_left (sizes_hold N) _ (and_right (ok && whole 8 own) _ e))) (r.refused (not-true _ h))
+  pub unsized_beside : ok && sizes_hold N ≡ false → (ok && whole 8 own) && (sizes_hold N && sizes) ≡ false
+  unsized_beside h = contrary _ _ (λ e. rw (and_left ok _ (and_left (ok && whole 8 own) _ e), and_left (sizes_hold N) _ (and_right (ok && whole 8 own) _ e))) h
 
-  pub unsized_own : {most : ℕ} {r : Bool} → (sizes_hold N ≡ true → sizes ≡ true → length (doubles_of own) ≤ most) → r ≡ fits 8 own most → not r ≡ true → (ok && whole 8 own) && (sizes_hold N && sizes) ≡ false
-  unsized_own {most} small q h = contrary _ _ fit (failed q (not-true _ h))
+  pub unsized_own : {most : ℕ} → (sizes_hold N ≡ true → sizes ≡ true → length (doubles_of own) ≤ most) → false ≡ fits 8 own most → (ok && whole 8 own) && (sizes_hold N && sizes) ≡ false
+  unsized_own {most} small q = contrary _ _ fit (sym q)
     where
       fit : (ok && whole 8 own) && (sizes_hold N && sizes) ≡ true → fits 8 own most ≡ true
       fit e =
@@ -217,8 +210,8 @@ module _ (N : Network) (ok : Bool) (own : List ℕ) (sizes : Bool) where
           let l : length (doubles_of own) ≤ most = small (and_left (sizes_hold N) sizes z) (and_right (sizes_hold N) sizes z) in
           fits_of 8 own most (and_right ok _ (and_left (ok && whole 8 own) _ e)) (omega (arith, l, made_length (double_at own) (length own / 8)))
 
-pub wholly_own : {ok : Bool} (own : List ℕ) (most : ℕ) → ok ≡ true → {r : Bool} → r ≡ fits 8 own most → not r ≡ false → ok && whole 8 own ≡ true
-wholly_own own most o e h = rw (o, whole_of 8 own most (kept e (not-false _ h)))
+pub wholly_own : {ok : Bool} (own : List ℕ) (most : ℕ) → ok ≡ true → true ≡ fits 8 own most → ok && whole 8 own ≡ true
+wholly_own own most o e = rw (o, whole_of 8 own most (sym e))
 
 pub told_own : {A : Type 0} (g : Bool → Network → List Float → A) {b : Bool} {M N : Network} {F F' : List Float} → b ≡ true → M ≡ N → F ≡ F' → g true M F ≡ g b N F'
 told_own g e q r = rw (e, q, r)
@@ -264,17 +257,14 @@ module _ (N : Network) (ok : Bool) (f pg : List ℕ) where
   pub unsized_network : ok && sizes_hold N ≡ false → whole_with ok f pg && sized_with N f pg ≡ false
   unsized_network = contrary _ _ both
 
-  pub unsized_with : {l : Lengths} {A : Arrays} → Read ok N l A → not l.ok ≡ true → whole_with ok f pg && sized_with N f pg ≡ false
-  unsized_with r h = unsized_network (r.refused (not-true _ h))
+  pub unsized_flows : false ≡ fits 8 f 512 → whole_with ok f pg && sized_with N f pg ≡ false
+  unsized_flows e = contrary _ _ flows_fit (sym e)
 
-  pub unsized_flows : {r : Bool} → r ≡ fits 8 f 512 → not r ≡ true → whole_with ok f pg && sized_with N f pg ≡ false
-  unsized_flows e h = contrary _ _ flows_fit (failed e (not-true _ h))
+  pub unsized_powers : false ≡ fits 8 pg 256 → whole_with ok f pg && sized_with N f pg ≡ false
+  unsized_powers e = contrary _ _ powers_fit (sym e)
 
-  pub unsized_powers : {r : Bool} → r ≡ fits 8 pg 256 → not r ≡ true → whole_with ok f pg && sized_with N f pg ≡ false
-  unsized_powers e h = contrary _ _ powers_fit (failed e (not-true _ h))
-
-  pub wholly : ok ≡ true → {r s : Bool} → r ≡ fits 8 f 512 → not r ≡ false → s ≡ fits 8 pg 256 → not s ≡ false → whole_with ok f pg ≡ true
-  wholly o e h d g = rw (o, whole_of 8 f 512 (kept e (not-false _ h)), whole_of 8 pg 256 (kept d (not-false _ g)))
+  pub wholly : ok ≡ true → true ≡ fits 8 f 512 → true ≡ fits 8 pg 256 → whole_with ok f pg ≡ true
+  wholly o e d = rw (o, whole_of 8 f 512 (sym e), whole_of 8 pg 256 (sym d))
 
 pub told_with : (g : Bool → Network → List Float → List Float → Out) {b : Bool} {M N : Network} {F F' P P' : List Float} → b ≡ true → M ≡ N → F ≡ F' → P ≡ P' → g true M F P ≡ g b N F' P'
 told_with g e q r s = rw (e, q, r, s)

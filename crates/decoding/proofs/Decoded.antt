@@ -2,34 +2,25 @@
 use mathlib.Core.Path.{◌≡◌, refl, sym, ◌∙◌}
 use mathlib.Core.Bool.{Bool, true, false, ◌&&◌}
 use mathlib.Core.List.{List}
-use Prim.Native.Nat.{ℕ, ◌/◌, ◌%◌, ◌≤◌, ◌<◌}
+use Prim.Native.Nat.{ℕ, ◌/◌, ◌≤◌}
 use native.Mathlib.Omega.{arith}
 use lib.ListN.{length}
-use borrow.Author.Tests.{ne_eqb, eq-eqb, le-leb, lt-leb}
+use borrow.Author.Tests.{le-leb}
 use Rattle.sequence.specs.Lists.{front, made}
 use Rattle.sequence.proofs.Lists.{and_left, and_right, made_length, never}
 use Rattle.words.specs.Words.{word_at, double_at, words_of, doubles_of}
 use Rattle.sequence.proofs.Fronts.{take_made}
 use Rattle.network.specs.Numbers.{Network, sizes_hold}
 use Rattle.network.proofs.Tests.{sized_few, sized_wiring, sized_readings, sized_indexes, sized_coefficients}
-use Rattle.decoding.specs.declared.Lengths.{Lengths}
+use Rattle.std.specs.Prelude.{Option, None}
 use Rattle.decoding.specs.Exports.{whole}
-use Rattle.decoding.specs.Decoding.{fits, Held, Arrays, cut, Read, Greatest}
+use Rattle.decoding.specs.Decoding.{fits, Held, Read}
 
 pub contrary : (p q : Bool) → (p ≡ true → q ≡ true) → q ≡ false → p ≡ false
 contrary true q f e = never (sym e ∙ f refl)
 contrary false q f e = refl
 
 -- ---- one slice
-
-pub ragged : (k : ℕ) (b : List ℕ) (most : ℕ) → (length b % k ≡ 0 → ⊥) → false ≡ fits k b most
-ragged k b most h = rw (ne_eqb (length b % k) 0 h)
-
-pub long : (k : ℕ) (b : List ℕ) (most : ℕ) → length b % k ≡ 0 → most < length b / k → false ≡ fits k b most
-long k b most h l = rw (eq-eqb (length b % k) 0 h, lt-leb (length b / k) most l)
-
-pub fitting : (k : ℕ) (b : List ℕ) (most : ℕ) → length b % k ≡ 0 → length b / k ≤ most → true ≡ fits k b most
-fitting k b most h l = rw (eq-eqb (length b % k) 0 h, le-leb (length b / k) most l)
 
 pub fits_of : (k : ℕ) (b : List ℕ) (most : ℕ) → whole k b ≡ true → length b / k ≤ most → fits k b most ≡ true
 fits_of k b most h l = rw (h, le-leb (length b / k) most l)
@@ -61,7 +52,7 @@ module _ (w r i k : List ℕ) where
   abbrev pub wholes : Bool
   wholes = whole 4 w && (whole 8 r && (whole 4 i && whole 8 k))
 
-  module _ (A : Arrays) (g : Greatest A) (e : wholes && sizes_hold network ≡ true) where
+  module _ (e : wholes && sizes_hold network ≡ true) where
     all : wholes ≡ true
     all = and_left wholes (sizes_hold network) e
 
@@ -74,30 +65,33 @@ module _ (w r i k : List ℕ) where
     last : whole 4 i && whole 8 k ≡ true
     last = and_right (whole 8 r) _ rest
 
-    pub wiring_fits : fits 4 w (length A.wiring) ≡ true
-    wiring_fits = fits_of 4 w _ (and_left (whole 4 w) _ all) (omega (arith, g.wiring, wiring_few network sized, made_length (word_at w) (length w / 4)))
+    wiring_fits : (most : ℕ) → 3033 ≤ most → fits 4 w most ≡ true
+    wiring_fits most l = fits_of 4 w most (and_left (whole 4 w) _ all) (omega (arith, l, wiring_few network sized, made_length (word_at w) (length w / 4)))
 
-    pub readings_fit : fits 8 r (length A.readings) ≡ true
-    readings_fit = fits_of 8 r _ (and_left (whole 8 r) _ rest) (omega (arith, g.readings, readings_few network sized, made_length (double_at r) (length r / 8)))
+    readings_fit : (most : ℕ) → 8065 ≤ most → fits 8 r most ≡ true
+    readings_fit most l = fits_of 8 r most (and_left (whole 8 r) _ rest) (omega (arith, l, readings_few network sized, made_length (double_at r) (length r / 8)))
 
-    pub indexes_fit : fits 4 i (length A.indexes) ≡ true
-    indexes_fit = fits_of 4 i _ (and_left (whole 4 i) _ last) (omega (arith, g.indexes, indexes_few network sized, made_length (word_at i) (length i / 4)))
+    indexes_fit : (most : ℕ) → 1024 ≤ most → fits 4 i most ≡ true
+    indexes_fit most l = fits_of 4 i most (and_left (whole 4 i) _ last) (omega (arith, l, indexes_few network sized, made_length (word_at i) (length i / 4)))
 
-    pub coefficients_fit : fits 8 k (length A.coefficients) ≡ true
-    coefficients_fit =
+    coefficients_fit : (most : ℕ) → 1024 ≤ most → fits 8 k most ≡ true
+    coefficients_fit most l =
         let f = sized_few network sized in
-        fits_of 8 k _ (and_right (whole 4 i) _ last) (omega (arith, g.coefficients, sized_coefficients network sized, f, made_length (double_at k) (length k / 8)))
+        fits_of 8 k most (and_right (whole 4 i) _ last) (omega (arith, l, sized_coefficients network sized, f, made_length (double_at k) (length k / 8)))
 
-  pub decoded : (l : Lengths) (A : Arrays) → l.ok ≡ true → whole 4 w ≡ true → whole 8 r ≡ true → whole 4 i ≡ true → whole 8 k ≡ true
-      → Held (words_of w) l.wiring A.wiring → Held (doubles_of r) l.readings A.readings → Held (words_of i) l.indexes A.indexes → Held (doubles_of k) l.coefficients A.coefficients
-      → Read wholes network l A
-  decoded l A o aw ar ai ak hw hr hi hk =
-      let all : wholes ≡ true = rw (aw, ar, ai, ak) in
-      let same : cut l A ≡ network = rw (hw.front, hr.front, hi.front, hk.front) in
-      record {
-        decoded = λ z. (all, record { wiring_room = hw.room; readings_room = hr.room; indexes_room = hi.room; coefficients_room = hk.room; network = same });
-        refused = λ z. never (sym z ∙ o);
-      }
+  -- a slice that arrays of the greatest lengths do not hold is ragged, or the sizes do not hold
+  module _ (most : ℕ) where
+    pub no_wiring : false ≡ fits 4 w most → 3033 ≤ most → wholes && sizes_hold network ≡ false
+    no_wiring q l = contrary _ _ (λ e. wiring_fits e most l) (sym q)
 
-pub unread : (ok : Bool) (N : Network) (l : Lengths) (A : Arrays) → l.ok ≡ false → ok && sizes_hold N ≡ false → Read ok N l A
-unread ok N l A o h = record { decoded = λ z. never (sym o ∙ z); refused = λ z. h }
+    pub no_readings : false ≡ fits 8 r most → 8065 ≤ most → wholes && sizes_hold network ≡ false
+    no_readings q l = contrary _ _ (λ e. readings_fit e most l) (sym q)
+
+    pub no_indexes : false ≡ fits 4 i most → 1024 ≤ most → wholes && sizes_hold network ≡ false
+    no_indexes q l = contrary _ _ (λ e. indexes_fit e most l) (sym q)
+
+    pub no_coefficients : false ≡ fits 8 k most → 1024 ≤ most → wholes && sizes_hold network ≡ false
+    no_coefficients q l = contrary _ _ (λ e. coefficients_fit e most l) (sym q)
+
+pub unread : {A : Type 0} {ok : Bool} {N : Network} {Is : A → Type 0} {r : Option A} → r ≡ None → ok && sizes_hold N ≡ false → Read ok N r Is
+unread e h = rw e (record { decoded = tt; refused = h })

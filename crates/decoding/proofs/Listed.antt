@@ -11,7 +11,8 @@ use lib.Ieee.{Float}
 use borrow.Author.Tests.{ltb-false, eqb-true}
 use Rattle.sequence.specs.Lists.{front}
 use Rattle.sequence.specs.Answers.{Test, test, first_of, marked}
-use Rattle.sequence.specs.Sheets.{Triplet, rows_of, cols_of, values_of, Laid, laid, lays, room, short_list}
+use Rattle.sequence.specs.declared.Triplet.{Triplet}
+use Rattle.sequence.specs.Sheets.{rows_of, cols_of, values_of, Laid, laid, lays, room, short_list}
 use Rattle.sequence.proofs.Lists.{made_length}
 use Rattle.sequence.proofs.Answers.{front_passed}
 use Rattle.words.specs.Words.{words_of, doubles_of, joined}

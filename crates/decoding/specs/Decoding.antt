@@ -1,6 +1,7 @@
 -- What the decoding of byte slices into arrays leaves, and how much room a result has. Assumes nothing.
-use Rattle.std.specs.Prelude.{ℕ, ◌*◌, ◌/◌, ◌≤◌, min, ◌≡◌, Bool, true, false, ◌&&◌, List, length, take, leb, Float}
+use Rattle.std.specs.Prelude.{ℕ, ◌*◌, ◌/◌, ◌≤◌, min, ◌≡◌, Bool, true, false, ◌&&◌, List, length, take, leb, Option, IfSome, IfNone}
 use Rattle.network.specs.Numbers.{Network, sizes_hold}
+use Rattle.decoding.specs.declared.Arrays.{Arrays}
 use Rattle.decoding.specs.declared.Lengths.{Lengths}
 use Rattle.decoding.specs.Exports.{whole}
 
@@ -12,16 +13,6 @@ fits k b most = whole k b && leb (length b / k) most
 pub record Held {A : Type 0} (words : List A) (count : ℕ) (array : List A) : Type 0 where
   pub room : count ≤ length array
   pub front : take count array ≡ words
-
--- a network's four arrays
-pub record Arrays : Type 0 where
-  pub wiring : List ℕ
-  pub readings : List Float
-  pub indexes : List ℕ
-  pub coefficients : List Float
-
-abbrev pub arrays : List ℕ → List Float → List ℕ → List Float → Arrays
-arrays w r i k = record { wiring = w; readings = r; indexes = i; coefficients = k }
 
 -- the network in front of four arrays
 abbrev pub cut : Lengths → Arrays → Network
@@ -35,23 +26,16 @@ cut l A =
 
 -- the arrays hold a network
 pub record Holds (N : Network) (l : Lengths) (A : Arrays) : Type 0 where
-  pub wiring_room : l.wiring ≤ length A.wiring
-  pub readings_room : l.readings ≤ length A.readings
-  pub indexes_room : l.indexes ≤ length A.indexes
-  pub coefficients_room : l.coefficients ≤ length A.coefficients
+  pub wiring_room : l.wiring ≤ 3033
+  pub readings_room : l.readings ≤ 8065
+  pub indexes_room : l.indexes ≤ 1024
+  pub coefficients_room : l.coefficients ≤ 1024
   pub network : cut l A ≡ N
 
--- the slices were decoded, or one is ragged or the sizes do not hold
-pub record Read (ok : Bool) (N : Network) (l : Lengths) (A : Arrays) : Type 0 where
-  pub decoded : l.ok ≡ true → (ok ≡ true) × Holds N l A
-  pub refused : l.ok ≡ false → ok && sizes_hold N ≡ false
-
--- the greatest lengths of a network's slices
-pub record Greatest (A : Arrays) : Type 0 where
-  pub wiring : length A.wiring ≡ 3033
-  pub readings : length A.readings ≡ 8065
-  pub indexes : length A.indexes ≡ 1024
-  pub coefficients : length A.coefficients ≡ 1024
+-- the slices were decoded into what is said of it, or one is ragged or the sizes do not hold
+pub record Read {A : Type 0} (ok : Bool) (N : Network) (r : Option A) (Is : A → Type 0) : Type 0 where
+  pub decoded : IfSome r (λ (a : A). (ok ≡ true) × Is a)
+  pub refused : IfNone r (ok && sizes_hold N ≡ false)
 
 -- cells for a result of at most `most` doubles that goes to a number of bytes
 pub record Cells (most bytes cells : ℕ) : Type 0 where

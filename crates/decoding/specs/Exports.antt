@@ -1,10 +1,10 @@
 -- What the exported functions do with bytes: the slices' words and doubles are a network, and the call's answer goes back as bytes.
 -- Main definitions: `decoded`, `all_whole`, `filled_out`, `laid_out`. Assumes nothing.
-use Rattle.std.specs.Prelude.{ℕ, ◌+◌, ◌*◌, ◌%◌, Bool, cond, ◌&&◌, List, [], length, take, eqb, Float}
+use Rattle.std.specs.Prelude.{ℕ, ◌+◌, ◌*◌, ◌%◌, Bool, cond, ◌&&◌, List, length, take, eqb, Float}
 use Rattle.std.specs.Borrow.{Bor}
 use Rattle.sequence.specs.Lists.{front}
-use Rattle.sequence.specs.Answers.{Filled, filled}
-use Rattle.sequence.specs.Sheets.{Laid, laid}
+use Rattle.sequence.specs.Answers.{Filled}
+use Rattle.sequence.specs.Sheets.{Laid}
 use Rattle.words.specs.Words.{words_of, doubles_of, word_bytes, double_bytes}
 use Rattle.network.specs.Numbers.{Network}
 

@@ -1,101 +1,92 @@
-// A network's four byte slices into arrays of the greatest lengths.
-ghost use Rattle.std.specs.Prelude.{◌≡◌, true, false, length};
+// Byte slices into arrays of words and doubles, and a network's four into arrays of the greatest lengths.
+ghost use Rattle.std.specs.Prelude.{◌≡◌, ◌<◌, ◌≤◌, ◌/◌, length, is_some, IfSome};
 ghost use Rattle.words.specs.Words.{words_of, doubles_of};
+ghost use Rattle.network.specs.Sites.{network_in};
 ghost use Rattle.decoding.specs.Exports.{decoded, all_whole};
-ghost use Rattle.decoding.specs.Decoding.{fits, Held, Read, Greatest, arrays};
+ghost use Rattle.decoding.specs.Decoding.{fits, Held, Holds, Read};
 
-use crate::{Lengths, Part};
+use crate::{Arrays, Lengths};
+use network::Lent;
 use words::{decode_doubles, decode_words};
 
-// The words of a slice, where it is whole and the array holds them.
-pub fn take_words(b: &[u8], into: &mut [u32]) -> Part
-    ensures { (result.ok ≡ fits 4 b.now (length into.old)) × (result.ok ≡ true → Held (words_of b.now) result.count into.new) }
+// How many items of `size` bytes a slice has, where it is a whole number of them and `most` are as many or more.
+pub fn count_within(b: &[u8], size: usize, most: usize) -> Option<usize>
+    requires { 0 < size }
+    ensures fits { is_some result ≡ fits size b.now most }
+    ensures count { IfSome result (λ n. (n ≡ length b.now / size) × (n ≤ most)) }
 {
-    if b.len() % 4 != 0 {
-        return Part {
-            ok: false,
-            count: 0,
-        };
+    let count = b.len() / size;
+    if b.len() % size != 0 || most < count {
+        return None;
     }
-    let n = b.len() / 4;
-    if n > into.len() {
-        return Part {
-            ok: false,
-            count: 0,
-        };
-    }
-    decode_words(b, n, into);
-    Part { ok: true, count: n }
+    Some(count)
+}
+
+// The words of a slice, where it is whole and the array holds them.
+pub fn take_words(b: &[u8], into: &mut [u32]) -> Option<usize>
+    ensures fits { is_some result ≡ fits 4 b.now (length into.old) }
+    ensures held { IfSome result (λ n. Held (words_of b.now) n into.new) }
+{
+    let count = count_within(b, 4, into.len())?;
+    decode_words(b, count, into);
+    Some(count)
 }
 
 // The doubles of a slice, where it is whole and the array holds them.
-pub fn take_doubles(b: &[u8], into: &mut [f64]) -> Part
-    ensures { (result.ok ≡ fits 8 b.now (length into.old)) × (result.ok ≡ true → Held (doubles_of b.now) result.count into.new) }
+pub fn take_doubles(b: &[u8], into: &mut [f64]) -> Option<usize>
+    ensures fits { is_some result ≡ fits 8 b.now (length into.old) }
+    ensures held { IfSome result (λ n. Held (doubles_of b.now) n into.new) }
 {
-    if b.len() % 8 != 0 {
-        return Part {
-            ok: false,
-            count: 0,
-        };
-    }
-    let n = b.len() / 8;
-    if n > into.len() {
-        return Part {
-            ok: false,
-            count: 0,
-        };
-    }
-    decode_doubles(b, n, into);
-    Part { ok: true, count: n }
+    let count = count_within(b, 8, into.len())?;
+    decode_doubles(b, count, into);
+    Some(count)
 }
 
-fn nothing() -> Lengths
-    ensures { result.ok ≡ false }
-{
-    Lengths {
-        ok: false,
-        wiring: 0,
-        readings: 0,
-        indexes: 0,
-        coefficients: 0,
+impl Arrays {
+    pub fn new() -> Arrays {
+        Arrays {
+            wiring: [0; 3033],
+            readings: [0.0; 8065],
+            indexes: [0; 1024],
+            coefficients: [0.0; 1024],
+        }
     }
-}
 
-// A network. One that the arrays do not hold has a ragged slice, or sizes that do not hold.
-pub fn take_network(
-    w: &[u8],
-    r: &[u8],
-    i: &[u8],
-    k: &[u8],
-    wiring: &mut [u32],
-    readings: &mut [f64],
-    indexes: &mut [u32],
-    coefficients: &mut [f64],
-) -> Lengths
-    requires { Greatest (arrays wiring.old readings.old indexes.old coefficients.old) }
-    ensures { Read (all_whole w.entry r.entry i.entry k.entry) (decoded w.entry r.entry i.entry k.entry) result (arrays wiring.new readings.new indexes.new coefficients.new) }
-{
-    let a = take_words(w, wiring);
-    if !a.ok {
-        return nothing();
+    // The lengths of a network, which is then in front of the arrays. One that they do not hold has a ragged slice, or
+    // sizes that do not hold.
+    pub fn fill(
+        &mut self,
+        wiring: &[u8],
+        readings: &[u8],
+        term_index: &[u8],
+        term_coefficient: &[u8],
+    ) -> Option<Lengths>
+        ensures { Read (all_whole wiring.entry readings.entry term_index.entry term_coefficient.entry) (decoded wiring.entry readings.entry term_index.entry term_coefficient.entry) result (λ l. Holds (decoded wiring.entry readings.entry term_index.entry term_coefficient.entry) l self.new) }
+    {
+        Some(Lengths {
+            wiring: take_words(wiring, &mut self.wiring)?,
+            readings: take_doubles(readings, &mut self.readings)?,
+            indexes: take_words(term_index, &mut self.indexes)?,
+            coefficients: take_doubles(term_coefficient, &mut self.coefficients)?,
+        })
     }
-    let b = take_doubles(r, readings);
-    if !b.ok {
-        return nothing();
-    }
-    let c = take_words(i, indexes);
-    if !c.ok {
-        return nothing();
-    }
-    let d = take_doubles(k, coefficients);
-    if !d.ok {
-        return nothing();
-    }
-    Lengths {
-        ok: true,
-        wiring: a.count,
-        readings: b.count,
-        indexes: c.count,
-        coefficients: d.count,
+
+    // The same network as it is lent to the calls.
+    pub fn read<'a>(
+        &'a mut self,
+        wiring: &[u8],
+        readings: &[u8],
+        term_index: &[u8],
+        term_coefficient: &[u8],
+    ) -> Option<Lent<'a>>
+        ensures { Read (all_whole wiring.entry readings.entry term_index.entry term_coefficient.entry) (decoded wiring.entry readings.entry term_index.entry term_coefficient.entry) result (λ l. network_in l ≡ decoded wiring.entry readings.entry term_index.entry term_coefficient.entry) }
+    {
+        let l = self.fill(wiring, readings, term_index, term_coefficient)?;
+        Some(Lent {
+            wiring: &self.wiring[..l.wiring],
+            readings: &self.readings[..l.readings],
+            term_index: &self.indexes[..l.indexes],
+            term_coefficient: &self.coefficients[..l.coefficients],
+        })
     }
 }

@@ -5,17 +5,18 @@
 pub mod answer;
 pub mod decode;
 
-// Whether a slice was decoded, and how many words it has.
-#[derive(Clone, Copy)]
-pub struct Part {
-    pub ok: bool,
-    pub count: usize,
+// Arrays of the greatest lengths that a network's slices have.
+#[derive(Drop)]
+pub struct Arrays {
+    pub wiring: [u32; 3033],
+    pub readings: [f64; 8065],
+    pub indexes: [u32; 1024],
+    pub coefficients: [f64; 1024],
 }
 
-// Whether a network was decoded, and the lengths of its slices.
+// The lengths of a network's slices.
 #[derive(Clone, Copy)]
 pub struct Lengths {
-    pub ok: bool,
     pub wiring: usize,
     pub readings: usize,
     pub indexes: usize,

@@ -1,4 +1,2 @@
--- The laws that proofs cite, here and in the crates above:
--- numbers that no arm names, and the number of each value. Assumes nothing.
-pub mod Arms
+-- The law that proofs cite in the crates above: the number of each value. Assumes nothing.
 pub mod Onto

@@ -1,6 +1,7 @@
 -- Every operand, parameter and mode has a number: what stands at its number is the value itself.
 -- Main results: `operand_of_code`, `parameter_of_code`, `mode_of_code`. Assumes nothing.
 use mathlib.Core.Path.{◌≡◌, refl}
+use Rattle.std.specs.Prelude.{Some}
 use Rattle.interface.specs.declared.Power.TheVariants.{Active, Reactive}
 use Rattle.interface.specs.declared.End.TheVariants.{From, To}
 use Rattle.interface.specs.declared.VoltageKind.TheVariants.{Magnitude, Angle, Squared, ProductReal, ProductImag}
@@ -14,12 +15,9 @@ use Rattle.interface.specs.declared.Parameter.{Parameter}
 use Rattle.interface.specs.declared.Parameter.TheVariants.{Demand, Cost, LineLimit, SeriesAdmittance, ShuntAdmittance, VoltageBound, GenBound, Transformer, Switching, ConstraintLimit}
 use Rattle.interface.specs.declared.Mode.{Mode}
 use Rattle.interface.specs.declared.Mode.TheVariants.{Forward, Adjoint, Auto}
-use Rattle.interface.specs.declared.OperandCode.TheVariants as operand
-use Rattle.interface.specs.declared.ParameterCode.TheVariants as parameter
-use Rattle.interface.specs.declared.ModeCode.TheVariants as mode
 use Rattle.interface.specs.Codes.{operand_of, parameter_of, mode_of, operand_code, parameter_code, mode_code}
 
-pub operand_of_code : (o : Operand) → operand_of (operand_code o) ≡ operand.Known o
+pub operand_of_code : (o : Operand) → operand_of (operand_code o) ≡ Some o
 operand_of_code (Price Active) = refl
 operand_of_code (Price Reactive) = refl
 operand_of_code (Dispatch Active) = refl
@@ -34,7 +32,7 @@ operand_of_code (Voltage Squared) = refl
 operand_of_code (Voltage ProductReal) = refl
 operand_of_code (Voltage ProductImag) = refl
 
-pub parameter_of_code : (p : Parameter) → parameter_of (parameter_code p) ≡ parameter.Known p
+pub parameter_of_code : (p : Parameter) → parameter_of (parameter_code p) ≡ Some p
 parameter_of_code (Demand Active) = refl
 parameter_of_code (Demand Reactive) = refl
 parameter_of_code (Cost Quadratic) = refl
@@ -55,7 +53,7 @@ parameter_of_code (Transformer PhaseShift) = refl
 parameter_of_code Switching = refl
 parameter_of_code ConstraintLimit = refl
 
-pub mode_of_code : (m : Mode) → mode_of (mode_code m) ≡ mode.Known m
+pub mode_of_code : (m : Mode) → mode_of (mode_code m) ≡ Some m
 mode_of_code Forward = refl
 mode_of_code Adjoint = refl
 mode_of_code Auto = refl

@@ -1,6 +1,6 @@
 -- Numbers for operands, parameters and modes: the order of the Rust's declarations, inner variants within, the last named turning first.
 -- Main definitions: `operand_of`, `parameter_of`, `mode_of`, and the number of each value. Assumes nothing.
-use Rattle.std.specs.Prelude.{ℕ, ◌+◌, ◌*◌, List, [], ◌∷◌, map, get_or}
+use Rattle.std.specs.Prelude.{◌≡◌, ℕ, ◌+◌, ◌*◌, List, [], ◌∷◌, Option, Some, None, Result, MatchResult, map, get_or}
 use Rattle.interface.specs.declared.Power.{Power}
 use Rattle.interface.specs.declared.Power.TheVariants.{Active, Reactive}
 use Rattle.interface.specs.declared.End.{End}
@@ -21,12 +21,7 @@ use Rattle.interface.specs.declared.Parameter.{Parameter}
 use Rattle.interface.specs.declared.Parameter.TheVariants.{Demand, Cost, LineLimit, SeriesAdmittance, ShuntAdmittance, VoltageBound, GenBound, Transformer, Switching, ConstraintLimit}
 use Rattle.interface.specs.declared.Mode.{Mode}
 use Rattle.interface.specs.declared.Mode.TheVariants.{Forward, Adjoint, Auto}
-use Rattle.interface.specs.declared.OperandCode.{OperandCode}
-use Rattle.interface.specs.declared.OperandCode.TheVariants as operand
-use Rattle.interface.specs.declared.ParameterCode.{ParameterCode}
-use Rattle.interface.specs.declared.ParameterCode.TheVariants as parameter
-use Rattle.interface.specs.declared.ModeCode.{ModeCode}
-use Rattle.interface.specs.declared.ModeCode.TheVariants as mode
+use Rattle.interface.specs.declared.codes.UnknownCode.{UnknownCode}
 
 -- every operand, in the order of the numbers 0 to 12
 abbrev pub operands : List Operand
@@ -49,16 +44,20 @@ abbrev pub modes : List Mode
 modes = Forward ∷ Adjoint ∷ Auto ∷ []
 
 -- the operand that stands at a number; past the last, none is known
-abbrev pub operand_of : ℕ → OperandCode
-operand_of code = get_or (map operand.Known operands) code operand.Unknown
+abbrev pub operand_of : ℕ → Option Operand
+operand_of code = get_or (map Some operands) code None
 
 -- the parameter, likewise
-abbrev pub parameter_of : ℕ → ParameterCode
-parameter_of code = get_or (map parameter.Known parameters) code parameter.Unknown
+abbrev pub parameter_of : ℕ → Option Parameter
+parameter_of code = get_or (map Some parameters) code None
 
 -- the mode, likewise
-abbrev pub mode_of : ℕ → ModeCode
-mode_of code = get_or (map mode.Known modes) code mode.Unknown
+abbrev pub mode_of : ℕ → Option Mode
+mode_of code = get_or (map Some modes) code None
+
+-- what decoding a number gives: the value that it stands for, or the number itself where it stands for none
+abbrev pub Decodes : {A : Type 0} → ℕ → Option A → Result A UnknownCode → Type 0
+Decodes code value r = MatchResult r (λ a. value ≡ Some a) (λ e. (value ≡ None) × (e.0 ≡ code))
 
 -- ---- a variant's place in its declaration
 

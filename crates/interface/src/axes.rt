@@ -11,11 +11,8 @@ impl Operand {
     {
         match self {
             Operand::Voltage(kind) => match kind {
-                VoltageKind::ProductReal => Axis::Branch,
-                VoltageKind::ProductImag => Axis::Branch,
-                VoltageKind::Magnitude => Axis::Bus,
-                VoltageKind::Angle => Axis::Bus,
-                VoltageKind::Squared => Axis::Bus,
+                VoltageKind::ProductReal | VoltageKind::ProductImag => Axis::Branch,
+                VoltageKind::Magnitude | VoltageKind::Angle | VoltageKind::Squared => Axis::Bus,
             },
             Operand::Flow { .. } => Axis::Branch,
             Operand::Price(_) => Axis::Bus,
@@ -30,15 +27,13 @@ impl Parameter {
         ensures { result ≡ parameter_axis self }
     {
         match self {
-            Parameter::Demand(_) => Axis::Bus,
-            Parameter::ShuntAdmittance(_) => Axis::Bus,
-            Parameter::VoltageBound(_) => Axis::Bus,
-            Parameter::Cost(_) => Axis::Generator,
-            Parameter::GenBound { .. } => Axis::Generator,
-            Parameter::LineLimit => Axis::Branch,
-            Parameter::SeriesAdmittance(_) => Axis::Branch,
-            Parameter::Transformer(_) => Axis::Branch,
-            Parameter::Switching => Axis::Branch,
+            Parameter::Demand(_) | Parameter::ShuntAdmittance(_) | Parameter::VoltageBound(_) =>
+                Axis::Bus,
+            Parameter::Cost(_) | Parameter::GenBound { .. } => Axis::Generator,
+            Parameter::LineLimit
+            | Parameter::SeriesAdmittance(_)
+            | Parameter::Transformer(_)
+            | Parameter::Switching => Axis::Branch,
             Parameter::ConstraintLimit => Axis::Constraint,
         }
     }

@@ -7,21 +7,21 @@ pub mod codes;
 pub mod scale;
 
 // Active or reactive power.
-#[derive(Clone, Copy)]
+#[derive(Clone, Copy, Debug, PartialEq, Eq)]
 pub enum Power {
     Active,
     Reactive,
 }
 
 // Which end of a branch a flow is measured at.
-#[derive(Clone, Copy)]
+#[derive(Clone, Copy, Debug, PartialEq, Eq)]
 pub enum End {
     From,
     To,
 }
 
 // How a voltage is represented: polar, or the W-space lift with |V|² and the two parts of Vi Vj*.
-#[derive(Clone, Copy)]
+#[derive(Clone, Copy, Debug, PartialEq, Eq)]
 pub enum VoltageKind {
     Magnitude,
     Angle,
@@ -31,35 +31,35 @@ pub enum VoltageKind {
 }
 
 // Which generation-cost coefficient.
-#[derive(Clone, Copy)]
+#[derive(Clone, Copy, Debug, PartialEq, Eq)]
 pub enum CostTerm {
     Quadratic,
     Linear,
 }
 
 // The real or the imaginary part of an admittance.
-#[derive(Clone, Copy)]
+#[derive(Clone, Copy, Debug, PartialEq, Eq)]
 pub enum GB {
     Conductance,
     Susceptance,
 }
 
 // A lower or an upper bound.
-#[derive(Clone, Copy)]
+#[derive(Clone, Copy, Debug, PartialEq, Eq)]
 pub enum Bound {
     Min,
     Max,
 }
 
 // A transformer control.
-#[derive(Clone, Copy)]
+#[derive(Clone, Copy, Debug, PartialEq, Eq)]
 pub enum TapKind {
     Ratio,
     PhaseShift,
 }
 
 // What a sensitivity is taken of.
-#[derive(Clone, Copy)]
+#[derive(Clone, Copy, Debug, PartialEq, Eq)]
 pub enum Operand {
     // Nodal-balance dual, per bus.
     Price(Power),
@@ -72,7 +72,7 @@ pub enum Operand {
 }
 
 // What a sensitivity is taken with respect to.
-#[derive(Clone, Copy)]
+#[derive(Clone, Copy, Debug, PartialEq, Eq)]
 pub enum Parameter {
     // Bus demand, per bus.
     Demand(Power),
@@ -97,7 +97,7 @@ pub enum Parameter {
 }
 
 // Which linear systems are solved: with the matrix, with its transpose, or whichever is smaller.
-#[derive(Clone, Copy)]
+#[derive(Clone, Copy, Debug, PartialEq, Eq)]
 pub enum Mode {
     Forward,
     Adjoint,
@@ -105,31 +105,10 @@ pub enum Mode {
 }
 
 // The element family that an operand or a parameter ranges over.
-#[derive(Clone, Copy)]
+#[derive(Clone, Copy, Debug, PartialEq, Eq)]
 pub enum Axis {
     Bus,
     Branch,
     Generator,
     Constraint,
-}
-
-// What a number says, where an operand is asked for.
-#[derive(Clone, Copy)]
-pub enum OperandCode {
-    Known(Operand),
-    Unknown,
-}
-
-// What a number says, where a parameter is asked for.
-#[derive(Clone, Copy)]
-pub enum ParameterCode {
-    Known(Parameter),
-    Unknown,
-}
-
-// What a number says, where a mode is asked for.
-#[derive(Clone, Copy)]
-pub enum ModeCode {
-    Known(Mode),
-    Unknown,
 }

@@ -1,11 +1,11 @@
 // From per-unit to served units: the scale of an operand, of a parameter, and of the cell of the two.
 ghost use Rattle.std.specs.Prelude.{◌≡◌};
-ghost use Rattle.sequence.specs.Answers.{filled};
+ghost use Rattle.sequence.specs.Answers.{answered};
 ghost use Rattle.interface.specs.Scales.{operand_scale, parameter_scale, scale_call};
 
 use crate::{Operand, Parameter};
 use float64::{base_high, base_low, in_range};
-use sequence::Answer;
+use sequence::{Answer, Refusal};
 
 // An operand's scale: power in MW or MVAr, prices per MW; voltages stay per unit.
 fn operand_served_scale(o: Operand, base: f64) -> f64
@@ -13,8 +13,7 @@ fn operand_served_scale(o: Operand, base: f64) -> f64
 {
     match o {
         Operand::Price(_) => 1.0 / base,
-        Operand::Dispatch(_) => base,
-        Operand::Flow { .. } => base,
+        Operand::Dispatch(_) | Operand::Flow { .. } => base,
         Operand::Voltage(_) => 1.0,
     }
 }
@@ -24,38 +23,29 @@ fn parameter_served_scale(p: Parameter, base: f64) -> f64
     ensures { result ≡ parameter_scale p base }
 {
     match p {
-        Parameter::Demand(_) => base,
-        Parameter::LineLimit => base,
-        Parameter::GenBound { .. } => base,
-        Parameter::ConstraintLimit => base,
-        Parameter::VoltageBound(_) => 1.0,
-        Parameter::Cost(_) => 1.0,
-        Parameter::SeriesAdmittance(_) => 1.0,
-        Parameter::ShuntAdmittance(_) => 1.0,
-        Parameter::Transformer(_) => 1.0,
-        Parameter::Switching => 1.0,
+        Parameter::Demand(_)
+        | Parameter::LineLimit
+        | Parameter::GenBound { .. }
+        | Parameter::ConstraintLimit => base,
+        Parameter::VoltageBound(_)
+        | Parameter::Cost(_)
+        | Parameter::SeriesAdmittance(_)
+        | Parameter::ShuntAdmittance(_)
+        | Parameter::Transformer(_)
+        | Parameter::Switching => 1.0,
     }
 }
 
 // The scale of a cell into out[0]: number 3 for a base outside its limits, 7 where out has no word.
 pub fn served_unit_scale(o: Operand, p: Parameter, base: f64, out: &mut [f64]) -> Answer
-    ensures { filled result.number result.count out.new ≡ scale_call o p base out.old }
+    ensures { answered result out.new ≡ scale_call o p base out.old }
 {
     if !in_range(base, base_low(), base_high()) {
-        return Answer {
-            number: 3,
-            count: 0,
-        };
+        return Err(Refusal::Reading);
     }
-    if out.len() < 1 {
-        return Answer {
-            number: 7,
-            count: 0,
-        };
+    if out.is_empty() {
+        return Err(Refusal::Short);
     }
     out[0] = operand_served_scale(o, base) / parameter_served_scale(p, base);
-    Answer {
-        number: 0,
-        count: 1,
-    }
+    Ok(1)
 }

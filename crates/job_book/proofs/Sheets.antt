@@ -10,7 +10,8 @@ use lib.Seq.{drop-append_seam}
 use lib.Ieee.{Float}
 use borrow.Author.Tests.{ltb-false}
 use Rattle.sequence.specs.Lists.{front}
-use Rattle.sequence.specs.Sheets.{Triplet, rows_of, cols_of, values_of, laid, lays, lays_if, room, short_list}
+use Rattle.sequence.specs.declared.Triplet.{Triplet}
+use Rattle.sequence.specs.Sheets.{rows_of, cols_of, values_of, laid, lays, lays_if, room, short_list}
 use Rattle.sequence.proofs.Lists.{front_length}
 use Rattle.sequence.proofs.Fronts.{take_front}
 use Rattle.kkt.specs.Slots.{Rule}

@@ -12,7 +12,8 @@ use lib.Ieee.{Float}
 use borrow.Author.Tests.{eqb-true, ltb-true, not-false, ne_eqb, eqb-false}
 use Rattle.float64.specs.Values.{within, raw_limit}
 use Rattle.sequence.specs.Answers.{Test, test, first_of}
-use Rattle.sequence.specs.Sheets.{Triplet, short_list}
+use Rattle.sequence.specs.declared.Triplet.{Triplet}
+use Rattle.sequence.specs.Sheets.{short_list}
 use Rattle.sequence.proofs.Lists.{and_left}
 use Rattle.network.specs.Layout.{size}
 use Rattle.network.specs.Numbers.{sizes_hold, wiring_holds, readings_hold, Accepted}

@@ -11,7 +11,7 @@ use lib.Ieee.{Float}
 use borrow.Author.Tests.{ne_eqb}
 use Rattle.sequence.specs.Lists.{front}
 use Rattle.sequence.specs.Answers.{Test}
-use Rattle.sequence.specs.Sheets.{Triplet}
+use Rattle.sequence.specs.declared.Triplet.{Triplet}
 use Rattle.kkt.specs.Slots.{Rule}
 use Rattle.change_table.specs.Table.{values_at}
 use Rattle.job_book.specs.Book.{Change, Given, Words, Line, matrix_of, lines, words_after, changes_of, Ran, ran, numbers_of, counts_of_lines, run_number, run_call}

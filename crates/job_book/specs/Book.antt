@@ -1,12 +1,14 @@
 -- 01's job book: what a change call answers and leaves, and a list of calls, each on what the last one left.
 -- The reference rule and the tests after 7 are parameters. Main definitions: `step`, `lines`, `words_after`, `run_call`. Assumes nothing.
-use Rattle.std.specs.Prelude.{ℕ, ◌+◌, ◌*◌, ◌/◌, ◌%◌, false, cond, not, ◌||◌, List, [], ◌∷◌, ◌++◌, map, length, get_or, set, eqb, ltb, Float}
+use Rattle.std.specs.Prelude.{ℕ, ◌+◌, ◌*◌, ◌/◌, ◌%◌, false, cond, not, ◌||◌, List, [], ◌∷◌, ◌++◌, map, length, get_or, set, eqb, ltb, Float, Result}
 use Rattle.std.specs.Float.{binary64}
 use Rattle.std.specs.Float.Ieee.{of_bits}
 use Rattle.float64.specs.Values.{within, raw_limit}
 use Rattle.sequence.specs.Lists.{made, front}
-use Rattle.sequence.specs.Answers.{Test, test, first_of}
-use Rattle.sequence.specs.Sheets.{Triplet, rows_of, cols_of, values_of, short_list}
+use Rattle.sequence.specs.Answers.{Test, test, first_of, number_of as answer_number, count_of as answer_count}
+use Rattle.sequence.specs.declared.Refusal.{Refusal}
+use Rattle.sequence.specs.declared.Triplet.{Triplet}
+use Rattle.sequence.specs.Sheets.{rows_of, cols_of, values_of, short_list}
 use Rattle.network.specs.declared.Counts.{Counts}
 use Rattle.network.specs.Layout.{counts_of, size, place}
 use Rattle.network.specs.Numbers.{Network}
@@ -83,6 +85,10 @@ pub record Outcome : Type 0 where
 abbrev pub outcome : ℕ → ℕ → Words → Outcome
 outcome n k W = record { number = n; count = k; left = W }
 
+-- of a call that hands this back and leaves these words
+abbrev pub outcome_of : Result ℕ Refusal → Words → Outcome
+outcome_of r W = outcome (answer_number r) (answer_count r) W
+
 -- "that list fills the front": the readings and the sheets afterwards
 abbrev pub fronts : List Triplet → List Float → Words → Words
 fronts ts r W = words r (front (rows_of ts) W.rows) (front (cols_of ts) W.cols) (front (values_of ts) W.values)
@@ -158,6 +164,10 @@ pub record Ran : Type 0 where
 
 abbrev pub ran : ℕ → ℕ → Words → List ℕ → List ℕ → Ran
 ran n k W ns ks = record { number = n; count = k; left = W; numbers = ns; counts = ks }
+
+-- of a call that hands this back and leaves these words and sheets
+abbrev pub ran_of : Result ℕ Refusal → Words → List ℕ → List ℕ → Ran
+ran_of r W ns ks = ran (answer_number r) (answer_count r) W ns ks
 
 abbrev pub numbers_of : List Line → List ℕ
 numbers_of ls = map (λ (l : Line). l.number) ls

@@ -3,7 +3,8 @@ use Rattle.std.specs.Prelude.{ℕ, ◌≡◌, Bool, true, false, cond, not, ◌&
 use Rattle.std.specs.Float.{nan}
 use Rattle.sequence.specs.Lists.{made}
 use Rattle.sequence.specs.Answers.{Test}
-use Rattle.sequence.specs.Sheets.{Triplet, triplet, laid}
+use Rattle.sequence.specs.declared.Triplet.{Triplet}
+use Rattle.sequence.specs.Sheets.{triplet, laid}
 use Rattle.kkt.specs.Slots.{Rule}
 use Rattle.change_table.specs.Table.{Cell, named_cells, among, values_at}
 use Rattle.sens_dc.specs.Calls.{matrix_call}

@@ -1,26 +1,48 @@
--- The laws of `emitted`: it goes over appended lists and loops, and a short column is its three items.
--- Main results: `emitted_each`, `puts_then`, `puts_more`, `puts_three`, `walk_begin`, `walk_more`. Assumes nothing.
+-- The laws of `emitted`: it goes over appended lists and loops, and a short column is its three triplets or none.
+-- Main results: `all_more`, `emitted_each`, `puts_then`, `puts_more`, `puts_three`, `puts_all`, `walk_begin`, `walk_more`. Assumes nothing.
 use mathlib.Core.Path.{◌≡◌, refl, sym, ◌∙◌}
 use mathlib.Core.Bool.{Bool, true, false}
-use mathlib.Core.List.{List, [], ◌∷◌, ◌++◌, append-nil, append_assoc}
-use Prim.Native.Nat.{ℕ, zero, suc, ◌+◌, ◌≤◌}
+use mathlib.Core.List.{List, [], ◌∷◌, ◌++◌, map, append-nil, append_assoc}
+use Prim.Native.Nat.{ℕ, zero, suc, ◌+◌, ◌≤◌, ◌<◌}
+use native.Mathlib.Numerals.{add-one}
 use native.Mathlib.Omega.{arith}
-use lib.ListN.{length}
+use lib.ListN.{length, get_or, take}
+use lib.Seq.{take-suc}
 use lib.Dec.{eqb}
 use lib.Ieee.{Float}
+use Rattle.std.specs.Prelude.{Option}
 use Rattle.sequence.specs.Lists.{each, when}
 use Rattle.sequence.specs.Links.{First}
-use Rattle.sequence.specs.Sheets.{Triplet, emit, Sheets, Puts}
+use Rattle.sequence.specs.declared.Triplet.{Triplet}
+use Rattle.sequence.specs.Sheets.{emit, Sheets, Puts}
 use Rattle.sequence.proofs.Lists.{each_same}
-use Rattle.sequence.proofs.Sheets.{begin, more, done, then}
+use Rattle.sequence.proofs.Sheets.{none, begin, more, done, then}
 use Rattle.sequence.proofs.Links.{scan, walk_begin, walk_more}
 use Rattle.network.specs.declared.Field.{Field}
 use Rattle.solution.specs.declared.Entry.{Entry}
 use Rattle.kkt_index.specs.declared.Block.{Block}
-use Rattle.kkt.specs.declared.Three.{Three}
 use Rattle.kkt.specs.Slots.{Slot}
 use Rattle.kkt.specs.Matrix.{item_of, emitted}
 use Rattle.kkt.specs.Walks.{triple, emits}
+
+-- ---- a column of triplets or none
+
+emits_append : (a b : List (Option Triplet)) → emits (a ++ b) ≡ emits a ++ emits b
+unfolding emits
+emits_append [] b = refl
+emits_append (t ∷ a) b = rw (emits_append a b, append_assoc)
+
+-- none of it put in yet, and one more
+pub all_begin : {l : ℕ} {S₀ : Sheets} → Puts l (emits []) S₀ S₀
+unfolding emits
+all_begin = none
+
+pub all_more : {l : ℕ} {S₀ S₁ S₂ : Sheets} (ts : List (Option Triplet)) (i : ℕ) (d : Option Triplet) → i < length ts
+    → Puts l (emits (take i ts)) S₀ S₁ → Puts l (emit (get_or ts i d)) S₁ S₂ → Puts l (emits (take (i + 1) ts)) S₀ S₂
+unfolding emits
+all_more ts i d h p q = rw (add-one, take-suc ts i d h, emits_append, append-nil) (then p q)
+
+-- ---- slots that are emitted
 
 module _ (start : Block → ℕ) (R : Field → ℕ → Float) (S : Entry → ℕ → Float) where
   abbrev out : List Slot → List Triplet
@@ -41,13 +63,19 @@ module _ (start : Block → ℕ) (R : Field → ℕ → Float) (S : Entry → �
   emitted_when true l = refl
   emitted_when false l = refl
 
-  -- a list of at most three slots is the three items of its column
+  -- what slots emit, each by its value
+  pub each_is : (l : List Slot) → emits (map (item_of start R S) l) ≡ out l
+  unfolding emitted emits
+  each_is [] = refl
+  each_is (s ∷ l) = rw (each_is l)
+
+  -- a list of at most three slots is what its column emits
   pub three_is : (l : List Slot) → length l ≤ 3 → emits (triple (item_of start R S) l) ≡ out l
-  unfolding emitted emit when
+  unfolding emitted emits emit
   three_is [] h = refl
   three_is (a ∷ []) h = refl
   three_is (a ∷ b ∷ []) h = refl
-  three_is (a ∷ b ∷ c ∷ []) h = rw append-nil
+  three_is (a ∷ b ∷ c ∷ []) h = refl
   three_is (a ∷ b ∷ c ∷ d ∷ ss) h = absurd (omega arith)
 
   module _ {l : ℕ} where
@@ -66,8 +94,12 @@ module _ (start : Block → ℕ) (R : Field → ℕ → Float) (S : Entry → �
     puts_done f {e} {m} g h p = rw (emitted_each m f) (done (λ i. out (f i)) g h (rw (emitted_each e f) at p))
 
     -- a short column that was put is the column that the specification names
-    pub puts_three : {S₀ S₁ : Sheets} (ss : List Slot) {t : Three} → length ss ≤ 3 → t ≡ triple (item_of start R S) ss → Puts l (emits t) S₀ S₁ → Puts l (out ss) S₀ S₁
+    pub puts_three : {S₀ S₁ : Sheets} (ss : List Slot) {t : List (Option Triplet)} → length ss ≤ 3 → t ≡ triple (item_of start R S) ss → Puts l (emits t) S₀ S₁ → Puts l (out ss) S₀ S₁
     puts_three ss h e p = rw (three_is ss h) at (rw e at p)
+
+    -- slots that were put, each by its value
+    pub puts_all : {S₀ S₁ : Sheets} (ss : List Slot) {t : List (Option Triplet)} → t ≡ map (item_of start R S) ss → Puts l (emits t) S₀ S₁ → Puts l (out ss) S₀ S₁
+    puts_all ss e p = rw (each_is ss) at (rw e at p)
 
     -- one slot that was put
     pub puts_one : {S₀ S₁ : Sheets} (s : Slot) → Puts l (emit (item_of start R S s)) S₀ S₁ → Puts l (out (s ∷ [])) S₀ S₁

@@ -1,10 +1,10 @@
 -- From slots to triplets: those whose value is not zero, their places made flat.
 -- Main definitions: `emitted`, `kkt_matrix_list`. Assumes nothing.
-use Rattle.std.specs.Prelude.{ℕ, ◌+◌, ◌*◌, not, List, [], ◌∷◌, ◌++◌, Float}
+use Rattle.std.specs.Prelude.{ℕ, ◌+◌, ◌*◌, not, List, [], ◌∷◌, ◌++◌, Float, Option}
 use Rattle.std.specs.Float.Ieee.{eq}
 use Rattle.float64.specs.Values.{nought}
-use Rattle.sequence.specs.declared.Item.{Item}
-use Rattle.sequence.specs.Sheets.{Triplet, item, emit}
+use Rattle.sequence.specs.declared.Triplet.{Triplet}
+use Rattle.sequence.specs.Sheets.{item, emit}
 use Rattle.network.specs.declared.Counts.{Counts}
 use Rattle.network.specs.declared.Field.{Field}
 use Rattle.network.specs.Layout.{reading}
@@ -16,15 +16,15 @@ use Rattle.snapping.specs.Expr.{eval}
 use Rattle.kkt.specs.Slots.{Place, Slot, Rule, site_of, slots}
 
 -- a value, kept where it is not zero
-abbrev pub kept : ℕ → ℕ → Float → Item
+abbrev pub kept : ℕ → ℕ → Float → Option Triplet
 kept r c v = item (not (eq v nought)) r c v
 
 module _ (start : Block → ℕ) (R : Field → ℕ → Float) (S : Entry → ℕ → Float) where
   abbrev pub flat : Place → ℕ
   flat p = start p.0 + p.1
 
-  -- a slot as an item, by where the blocks start and what is read
-  abbrev pub item_of : Slot → Item
+  -- a slot as a triplet or none, by where the blocks start and what is read
+  abbrev pub item_of : Slot → Option Triplet
   item_of s = kept (flat s.row) (flat s.col) (eval R S s.what)
 
   unfoldable pub emitted : List Slot → List Triplet

@@ -1,12 +1,12 @@
--- What the loops that put the matrix keep: which slices are lent, and short columns as three items.
+-- What the loops that put the matrix keep: which slices are lent, and short columns as three triplets or none.
 -- Main definitions: `Lent`, `triple`, `span_of`. Assumes nothing.
-use Rattle.std.specs.Prelude.{ℕ, ◌+◌, ◌%◌, ◌≡◌, Bool, true, false, cond, List, [], ◌∷◌, ◌++◌, get_or, eqb, Float}
+use Rattle.std.specs.Prelude.{ℕ, ◌+◌, ◌%◌, ◌≡◌, Bool, true, false, cond, List, [], ◌∷◌, ◌++◌, get_or, eqb, Float, Option, None}
 use Rattle.std.specs.Float.{nan, binary64}
 use Rattle.std.specs.Float.Ieee.{neg, mul}
 use Rattle.float64.specs.Values.{nought, one}
-use Rattle.sequence.specs.declared.Item.{Item}
 use Rattle.sequence.specs.Lists.{each, when}
-use Rattle.sequence.specs.Sheets.{Triplet, item, emit}
+use Rattle.sequence.specs.declared.Triplet.{Triplet}
+use Rattle.sequence.specs.Sheets.{emit}
 use Rattle.network.specs.declared.Counts.{Counts}
 use Rattle.network.specs.declared.Field.{Field}
 use Rattle.network.specs.declared.Part.TheVariants.{GenBus}
@@ -23,7 +23,6 @@ use Rattle.snapping.specs.Expr.Expr.{num, minus}
 use Rattle.snapping.specs.Snap.{upper_slack, lower_slack, upper_dual, lower_dual}
 use Rattle.kkt.specs.declared.Side.{Side}
 use Rattle.kkt.specs.declared.Side.TheVariants.{Above, Below, Level}
-use Rattle.kkt.specs.declared.Three.{Three}
 use Rattle.kkt.specs.declared.Work.{Work}
 use Rattle.kkt.specs.declared.Work.TheVariants.{Angles, Dispatch, Short, Epigraph, SegmentDuals, Balances, Rows}
 use Rattle.kkt.specs.declared.Use.{Use}
@@ -39,26 +38,25 @@ pub record Lent (c : Counts) (w : List ℕ) (r s : List Float) (x : KktIdx) : Ty
   pub pieces_are : x.pieces ≡ pieces c w
   pub narrow : Narrow x
 
--- a slot as an item, by the index and the slices
-abbrev pub item_in : Counts → List Float → List Float → KktIdx → Slot → Item
+-- a slot as a triplet or none, by the index and the slices
+abbrev pub item_in : Counts → List Float → List Float → KktIdx → Slot → Option Triplet
 item_in c r s x = item_of (start_in x) (reading c r) (solved c x.pieces s)
 
--- ---- up to three items by value
+-- ---- up to three triplets by value
 
-abbrev pub three : Item → Item → Item → Three
-three a b c = record { first = a; second = b; third = c }
+abbrev pub three : Option Triplet → Option Triplet → Option Triplet → List (Option Triplet)
+three a b c = a ∷ b ∷ c ∷ []
 
-abbrev pub nothing : Item
-nothing = item false 0 0 nought
-
-abbrev pub triple : (Slot → Item) → List Slot → Three
-triple f [] = three nothing nothing nothing
-triple f (a ∷ []) = three (f a) nothing nothing
-triple f (a ∷ b ∷ []) = three (f a) (f b) nothing
+abbrev pub triple : (Slot → Option Triplet) → List Slot → List (Option Triplet)
+triple f [] = three None None None
+triple f (a ∷ []) = three (f a) None None
+triple f (a ∷ b ∷ []) = three (f a) (f b) None
 triple f (a ∷ b ∷ c ∷ ss) = three (f a) (f b) (f c)
 
-abbrev pub emits : Three → List Triplet
-emits t = emit t.first ++ (emit t.second ++ emit t.third)
+-- the triplets that are meant
+unfoldable pub emits : List (Option Triplet) → List Triplet
+emits [] = []
+emits (t ∷ ts) = emit t ++ emits ts
 
 -- ---- which loop a block's columns are put by
 
@@ -117,7 +115,7 @@ abbrev pub taken : Bool → Float → Float
 taken true v = neg v
 taken false v = v
 
-abbrev pub sum_item : Bool → List Float → ℕ → ℕ → ℕ → Item
+abbrev pub sum_item : Bool → List Float → ℕ → ℕ → ℕ → Option Triplet
 sum_item less acc from col i = kept (from + i) col (taken less (get_or acc i nan))
 
 unfoldable pub span_of : Bool → List Float → ℕ → ℕ → ℕ → ℕ → List Triplet

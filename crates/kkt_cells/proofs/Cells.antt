@@ -2,7 +2,7 @@
 -- Main results: `cells_are`, `counted`, `kept_all`, `to_fits`, `bus_low`, `replayed_less`, `replayed_as_is`. Assumes nothing.
 use mathlib.Core.Path.{◌≡◌, refl, sym, ap, ◌∙◌}
 use mathlib.Core.Bool.{Bool, true, false, cond, not, ◌&&◌, ◌||◌, or-true, beq}
-use mathlib.Core.List.{List, [], ◌∷◌, ◌++◌, append-nil}
+use mathlib.Core.List.{List, ◌++◌, append-nil}
 use mathlib.Core.Logic.{⊎_elim}
 use Prim.Native.Nat.{ℕ, zero, suc, ◌+◌, ◌-◌, ◌*◌, ◌≤◌, ◌<◌}
 use native.Mathlib.Nat.{eq-or-lt_of_le, not-suc-le-zero, le_of_suc-le-suc, zero-add, zero-mul}
@@ -13,9 +13,11 @@ use lib.Seq.{get_or-append-add, get_or-set_same}
 use lib.Dec.{eqb}
 use lib.IntN.{pos}
 use lib.Ieee.{Float, nan, inf, fin, up, down, neg, eq, of_bits}
+use Rattle.std.specs.Prelude.{Some, None}
 use Rattle.float64.specs.Values.{nought}
-use Rattle.sequence.specs.Lists.{before, each, when, front}
-use Rattle.sequence.specs.Sheets.{Triplet, triplet, emit, rows_of, cols_of, values_of, Sheets, sheets, Puts, Room}
+use Rattle.sequence.specs.Lists.{before, each, front}
+use Rattle.sequence.specs.declared.Triplet.{Triplet}
+use Rattle.sequence.specs.Sheets.{triplet, item, emit, rows_of, cols_of, values_of, Sheets, sheets, Puts, Room}
 use Rattle.sequence.proofs.Lists.{each_same, each_add, each_more, stored_at}
 use Rattle.sequence.proofs.Sheets.{full, begin, more}
 use Rattle.network.specs.declared.Counts.{Counts}
@@ -84,10 +86,10 @@ module _ (c : Counts) (w : List ℕ) (r : List Float) where
   none_dead = refl
 
   cell_length : (j i : ℕ) → length (emit (kept i j (susceptance c w r j i))) ≡ listed (eval (reading c r) zeros (balance c w i j))
-  unfolding emit when
+  unfolding emit
   cell_length j i = rw (entry_is zeros j i) (go (not (eq (eval (reading c r) zeros (balance c w i j)) nought)) (triplet i j (eval (reading c r) zeros (balance c w i j))))
     where
-      go : (b : Bool) (t : Triplet) → length (when b (t ∷ [])) ≡ bit b
+      go : (b : Bool) (t : Triplet) → length (emit (cond b (Some t) None)) ≡ bit b
       go true t = refl
       go false t = refl
 
@@ -230,7 +232,7 @@ module _ (less : Bool) (from col : ℕ) where
   over_each (suc n) f = over_append (each n f) (f n) ∙ rw (over_each n f)
 
   over_one : (i j : ℕ) (v : Float) → over (emit (kept i j v)) ≡ emit (kept (from + i) col (taken less v))
-  unfolding over emit when each
+  unfolding over emit each
   over_one i j v = go (eq v nought) refl
     where
       go : (b : Bool) → eq v nought ≡ b → over (emit (kept i j v)) ≡ emit (kept (from + i) col (taken less v))
@@ -278,11 +280,11 @@ low_append m a b ha hb t = go (dec_lt t (length a))
         let z : t ≡ length a + (t - length a) = omega (arith, l) in
         rw (z, get_or-append-add a b (t - length a) nothing_there) (hb (t - length a))
 
-low_when : (b : Bool) (i j m : ℕ) (v : Float) → i ≤ m → (t : ℕ) → (get_or (when b (triplet i j v ∷ [])) t nothing_there).row ≤ m
-unfolding when
-low_when true i j m v h zero = h
-low_when true i j m v h (suc t) = omega arith
-low_when false i j m v h t = omega arith
+low_item : (b : Bool) (i j m : ℕ) (v : Float) → i ≤ m → (t : ℕ) → (get_or (emit (item b i j v)) t nothing_there).row ≤ m
+unfolding emit
+low_item true i j m v h zero = h
+low_item true i j m v h (suc t) = omega arith
+low_item false i j m v h t = omega arith
 
 low_each : (m n : ℕ) (f : ℕ → List Triplet) → ((i t : ℕ) → i < n → (get_or (f i) t nothing_there).row ≤ m) → (t : ℕ) → (get_or (each n f) t nothing_there).row ≤ m
 unfolding each
@@ -291,8 +293,8 @@ low_each m (suc n) f h t = low_append m (each n f) (f n) (low_each m n f (λ i u
 
 module _ {c : Counts} {w : List ℕ} {r : List Float} {starts B : List ℕ} {X : List Float} (k : Kept c w r starts B X) (j : ℕ) (h : j < c.buses) {first to : ℕ} (ef : first ≡ get_or starts j 0) (et : to ≡ get_or starts (j + 1) 0) where
   cells_low : (t : ℕ) → (get_or (cells_of c w r j) t nothing_there).row ≤ c.buses
-  unfolding cells_of emit
-  cells_low = low_each c.buses c.buses _ (λ i t l. low_when (not (eq (susceptance c w r j i) nought)) i j c.buses (susceptance c w r j i) (omega arith) t)
+  unfolding cells_of
+  cells_low = low_each c.buses c.buses _ (λ i t l. low_item (not (eq (susceptance c w r j i) nought)) i j c.buses (susceptance c w r j i) (omega arith) t)
 
   first_is : first ≡ cell_start c w r j
   first_is = ef ∙ k.starts_at j (omega arith)

@@ -2,7 +2,8 @@
 use Rattle.std.specs.Prelude.{ℕ, ◌+◌, ◌≤◌, ◌<◌, ◌≡◌, List, length, get_or, Float}
 use Rattle.std.specs.Float.{nan}
 use Rattle.sequence.specs.Lists.{each}
-use Rattle.sequence.specs.Sheets.{Triplet, emit, rows_of, values_of}
+use Rattle.sequence.specs.declared.Triplet.{Triplet}
+use Rattle.sequence.specs.Sheets.{emit, rows_of, values_of}
 use Rattle.network.specs.declared.Counts.{Counts}
 use Rattle.susceptance.specs.Susceptance.{susceptance}
 use Rattle.kkt.specs.Matrix.{kept}

@@ -12,11 +12,12 @@ ghost use Rattle.kkt.specs.Matrix.{kept, emitted};
 ghost use Rattle.kkt.specs.Walks.{Lent, taken, balance_slots};
 ghost use Rattle.kkt_cells.specs.Cells.{cells_of, Kept};
 
+use kkt::kept;
 use kkt_index::{Block, KktIdx};
 use kkt_sums::{put_sums, taken};
 use network::Counts;
 use network::layout::wide;
-use sequence::{Item, put};
+use sequence::{Triplet, put};
 use susceptance::make_row;
 
 // Bus j's sums that are not zero, into three sheets of `cap` words from a place on.
@@ -84,18 +85,11 @@ pub fn keep_sums(
 }
 
 // A kept sum as an entry of a column.
-fn cell_item(less: bool, from: usize, col: usize, i: usize, v: f64) -> Item
+fn cell_item(less: bool, from: usize, col: usize, i: usize, v: f64) -> Option<Triplet>
     requires { (from ≤ 0x2_0000) × (col ≤ 0x2_0000) × (i ≤ 256) }
     ensures { result ≡ kept (from + i) col (taken less v) }
 {
-    let value = taken(less, v);
-    let row = from + i;
-    Item {
-        keep: value != 0.0,
-        row: row as u32,
-        col: col as u32,
-        value,
-    }
+    kept(from + i, col, taken(less, v))
 }
 
 // Bus j's kept sums as entries: in its va column, negatively, against the balances, or in its nu_bal
@@ -126,12 +120,11 @@ pub fn put_kept(
 {
     let va = x.start(Block::Va);
     let nu_bal = x.start(Block::NuBal);
-    let mut from = va;
-    let mut col = nu_bal + j;
-    if less {
-        from = nu_bal;
-        col = va + j;
-    }
+    let (from, col) = if less {
+        (nu_bal, va + j)
+    } else {
+        (va, nu_bal + j)
+    };
     let first = wide(starts[j]);
     let to = wide(starts[j + 1]);
     let mut k = at;

@@ -17,11 +17,11 @@ ghost use Rattle.kkt.specs.Matrix.{emitted};
 ghost use Rattle.kkt.specs.Walks.{Lent, item_in, generators_at, triple, sign_of, sign_at};
 ghost use Rattle.kkt.specs.Slots.Rule.{first_place};
 
-use kkt::{Three, entry, put_three};
+use kkt::{entry, put_all};
 use kkt_index::{Block, KktIdx};
 use network::layout::{reading, wide, word};
 use network::{Counts, Field, Part};
-use sequence::{fill, push, put};
+use sequence::{Triplet, push, put};
 use snapping::{gamma_lb_of, gamma_ub_of};
 
 // The chains of a part whose words are buses, by bus.
@@ -32,10 +32,8 @@ pub fn link_part(wiring: &[u32], c: Counts, p: Part, head: &mut [u32], next: &mu
     ensures { Links (wire c wiring.now p) c.buses (part_size c p) 0 head.new next.new }
 {
     let to = network::layout::part_size(c, p);
-    fill(head, c.buses, to as u32);
-    let mut i = to;
-    while i > 0 {
-        i -= 1;
+    head[..c.buses].fill(to as u32);
+    for i in (0..to).rev() {
         push(head, next, word(wiring, c, p, i), i);
     }
 }
@@ -56,7 +54,7 @@ fn end_items(
     x: KktIdx,
     j: usize,
     end: usize,
-) -> Three
+) -> [Option<Triplet>; 3]
     requires lent { Lent c wiring.now readings.now sheet.now x }
     requires j_lt_buses { (j < c.buses) × (end < 2 * c.branches) }
     ensures { result ≡ triple (item_in c readings.now sheet.now x) (end_slots c wiring.now j (sign_at end) (end / 2)) }
@@ -67,11 +65,11 @@ fn end_items(
     let lower = gamma_lb_of(wiring, readings, sheet, c, x.pieces, e);
     let upper = gamma_ub_of(wiring, readings, sheet, c, x.pieces, e);
     let b = reading(readings, c, Field::Susceptance, e);
-    Three {
-        first: entry(x, Block::GammaLb, e, Block::Va, j, lower * sw * a),
-        second: entry(x, Block::GammaUb, e, Block::Va, j, -upper * sw * a),
-        third: entry(x, Block::NuFlow, e, Block::Va, j, b * sw * a),
-    }
+    [
+        entry(x, Block::GammaLb, e, Block::Va, j, lower * sw * a),
+        entry(x, Block::GammaUb, e, Block::Va, j, -upper * sw * a),
+        entry(x, Block::NuFlow, e, Block::Va, j, b * sw * a),
+    ]
 }
 
 // The branches at bus j, along its chain.
@@ -101,7 +99,7 @@ pub fn put_ends(
     let mut k = at;
     let mut end = wide(head[j]);
     while end < to {
-        k = put_three(
+        k = put_all(
             rows,
             cols,
             values,

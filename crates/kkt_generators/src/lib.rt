@@ -11,11 +11,11 @@ ghost use Rattle.kkt.specs.Slots.{pg_own, segments_of};
 ghost use Rattle.kkt.specs.Matrix.{emitted};
 ghost use Rattle.kkt.specs.Walks.{Lent, item_in, triple, own_slots, segment_slots, generator_slots};
 
-use kkt::{Three, Use, entry, nothing, put_three};
+use kkt::{Use, entry, put_all};
 use kkt_index::{Block, KktIdx};
 use network::layout::{reading, word};
 use network::{Counts, Field, Part};
-use sequence::put;
+use sequence::Triplet;
 use snapping::{segment_dual, segment_slack};
 use solution::{Entry, next_piece, solved_at};
 
@@ -30,7 +30,7 @@ fn segment_items(
     j: usize,
     g: usize,
     s: usize,
-) -> Three
+) -> [Option<Triplet>; 3]
     requires lent { Lent c wiring.now readings.now sheet.now x }
     requires j_lt_generators { (j < c.generators) × (g < x.pieces) × (s < c.segments) }
     ensures { result ≡ triple (item_in c readings.now sheet.now x) (segment_slots u j g s) }
@@ -38,23 +38,23 @@ fn segment_items(
     let slope = reading(readings, c, Field::Slopes, s);
     let dual = segment_dual(readings, sheet, c, x.pieces, j, g, s);
     match u {
-        Use::InDispatch => Three {
-            first: entry(x, Block::Segments, s, Block::Pg, j, -dual * slope),
-            second: nothing(),
-            third: nothing(),
-        },
-        Use::InEpigraph => Three {
-            first: entry(x, Block::Segments, s, Block::Cost, g, dual),
-            second: nothing(),
-            third: nothing(),
-        },
+        Use::InDispatch => [
+            entry(x, Block::Segments, s, Block::Pg, j, -dual * slope),
+            None,
+            None,
+        ],
+        Use::InEpigraph => [
+            entry(x, Block::Segments, s, Block::Cost, g, dual),
+            None,
+            None,
+        ],
         Use::InDuals => {
             let slack = segment_slack(readings, sheet, c, x.pieces, j, g, s);
-            Three {
-                first: entry(x, Block::Pg, j, Block::Segments, s, slope),
-                second: entry(x, Block::Cost, g, Block::Segments, s, -1.0),
-                third: entry(x, Block::Segments, s, Block::Segments, s, slack),
-            }
+            [
+                entry(x, Block::Pg, j, Block::Segments, s, slope),
+                entry(x, Block::Cost, g, Block::Segments, s, -1.0),
+                entry(x, Block::Segments, s, Block::Segments, s, slack),
+            ]
         }
     }
 }
@@ -86,7 +86,7 @@ fn put_segments(
 {
     let mut k = at;
     for t in 0..count {
-        k = put_three(
+        k = put_all(
             rows,
             cols,
             values,
@@ -122,14 +122,13 @@ fn put_dispatch(
     let lower = solved_at(sheet, c, x.pieces, Entry::RhoLb, j);
     let upper = solved_at(sheet, c, x.pieces, Entry::RhoUb, j);
     let bus = word(wiring, c, Part::GenBus, j);
-    let own = Three {
-        first: entry(x, Block::Pg, j, Block::Pg, j, curvature),
-        second: entry(x, Block::RhoLb, j, Block::Pg, j, lower),
-        third: entry(x, Block::RhoUb, j, Block::Pg, j, -upper),
-    };
-    let last = entry(x, Block::NuBal, bus, Block::Pg, j, 1.0);
-    let k = put_three(rows, cols, values, limit, at, own);
-    put(rows, cols, values, limit, k, last)
+    let own = [
+        entry(x, Block::Pg, j, Block::Pg, j, curvature),
+        entry(x, Block::RhoLb, j, Block::Pg, j, lower),
+        entry(x, Block::RhoUb, j, Block::Pg, j, -upper),
+        entry(x, Block::NuBal, bus, Block::Pg, j, 1.0),
+    ];
+    put_all(rows, cols, values, limit, at, own)
 }
 
 // What generator j has of its own in a loop: in the dispatch's alone.

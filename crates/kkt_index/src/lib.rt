@@ -11,7 +11,7 @@ use model::rows::row_limits;
 use network::Counts;
 
 // The blocks of the matrix's rows and columns, in order.
-#[derive(Clone, Copy)]
+#[derive(Clone, Copy, PartialEq, Eq, Debug)]
 pub enum Block {
     Va,
     Pg,
@@ -156,10 +156,8 @@ pub fn rows_of(limits: RowLimits) -> usize
 {
     match limits {
         RowLimits::None => 0,
-        RowLimits::Upper(_) => 1,
-        RowLimits::Lower(_) => 1,
+        RowLimits::Upper(_) | RowLimits::Lower(_) | RowLimits::Equal(_) => 1,
         RowLimits::Both(_, _) => 2,
-        RowLimits::Equal(_) => 1,
     }
 }
 

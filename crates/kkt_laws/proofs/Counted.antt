@@ -1,15 +1,17 @@
 -- How many triplets a list of slots gives: at most as many as there are slots, turn by turn over a loop, and one slot by whether its value is zero.
 -- Main results: `count_append`, `count_one`, `count_each`, `each_le`, `turns_le`. Assumes nothing.
 use mathlib.Core.Path.{◌≡◌, refl}
-use mathlib.Core.Bool.{Bool, true, false, not}
+use mathlib.Core.Bool.{Bool, true, false, cond, not}
 use mathlib.Core.List.{List, [], ◌∷◌, ◌++◌}
 use Prim.Native.Nat.{ℕ, zero, suc, ◌+◌, ◌*◌, ◌<◌, ◌≤◌}
 use native.Mathlib.Omega.{arith}
 use lib.ListN.{length, length-append}
 use lib.Ieee.{Float, eq}
+use Rattle.std.specs.Prelude.{Some, None}
 use Rattle.float64.specs.Values.{nought}
 use Rattle.sequence.specs.Lists.{before, each, when}
-use Rattle.sequence.specs.Sheets.{Triplet, triplet, emit}
+use Rattle.sequence.specs.declared.Triplet.{Triplet}
+use Rattle.sequence.specs.Sheets.{triplet, emit}
 use Rattle.network.specs.declared.Field.{Field}
 use Rattle.solution.specs.declared.Entry.{Entry}
 use Rattle.kkt_index.specs.declared.Block.{Block}
@@ -31,10 +33,10 @@ module _ (start : Block → ℕ) (R : Field → ℕ → Float) (S : Entry → �
   count_append a b = rw (emitted_append start R S a b) (length-append (emitted start R S a) (emitted start R S b))
 
   pub count_one : (s : Slot) (ss : List Slot) → count (s ∷ ss) ≡ listed (eval R S s.what) + count ss
-  unfolding emitted emit when
+  unfolding emitted emit
   count_one s ss = go (not (eq (eval R S s.what) nought)) (triplet (flat start R S s.row) (flat start R S s.col) (eval R S s.what))
     where
-      go : (b : Bool) (t : Triplet) → length (when b (t ∷ []) ++ emitted start R S ss) ≡ bit b + count ss
+      go : (b : Bool) (t : Triplet) → length (emit (cond b (Some t) None) ++ emitted start R S ss) ≡ bit b + count ss
       go true t = omega arith
       go false t = omega arith
 

@@ -2,7 +2,7 @@
 use Rattle.std.specs.Prelude.{ℕ, ◌<◌, ◌≡◌, false}
 use Rattle.std.specs.Float.Ieee.{eq}
 use Rattle.float64.specs.Values.{nought}
-use Rattle.sequence.specs.Sheets.{Triplet}
+use Rattle.sequence.specs.declared.Triplet.{Triplet}
 
 -- row and column below dim
 abbrev pub InRange : ℕ → Triplet → Type 0

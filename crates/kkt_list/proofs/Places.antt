@@ -6,7 +6,8 @@ use mathlib.Core.List.{List, [], ◌∷◌}
 use Prim.Native.Nat.{ℕ}
 use lib.Dec.{T}
 use lib.Ieee.{Float}
-use Rattle.sequence.specs.Sheets.{Triplet, Sheets, Puts}
+use Rattle.sequence.specs.declared.Triplet.{Triplet}
+use Rattle.sequence.specs.Sheets.{Sheets, Puts}
 use Rattle.network.specs.declared.Counts.{Counts}
 use Rattle.network.specs.declared.Field.{Field}
 use Rattle.network.specs.Layout.{reading}

@@ -426,21 +426,19 @@ pub fn put_kkt(
     ensures puts { Puts limit (kkt_matrix_list first_place c wiring.now readings.now term_index.now term_coefficient.now sheet.now) (held rows.entry cols.entry values.entry 0) (held rows.exit cols.exit values.exit result) }
     ensures most { result ≤ 0x1b0_0000 }
 {
-    if c.buses <= 32 {
-        if c.branches <= 48 {
-            return put_small(
-                wiring,
-                readings,
-                term_index,
-                term_coefficient,
-                sheet,
-                c,
-                rows,
-                cols,
-                values,
-                limit,
-            );
-        }
+    if c.buses <= 32 && c.branches <= 48 {
+        return put_small(
+            wiring,
+            readings,
+            term_index,
+            term_coefficient,
+            sheet,
+            c,
+            rows,
+            cols,
+            values,
+            limit,
+        );
     }
     put_large(
         wiring,

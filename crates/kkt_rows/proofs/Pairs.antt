@@ -1,12 +1,13 @@
 -- A term's pair of entries by the side's dual and the term's coefficient is the specification's pair. Main results: `pair_put`, `pairs_done`. Assumes nothing.
-use mathlib.Core.Path.{◌≡◌}
-use mathlib.Core.List.{List, ◌++◌, append-nil}
+use mathlib.Core.Path.{◌≡◌, refl}
+use mathlib.Core.List.{List, [], ◌∷◌}
 use Prim.Native.Nat.{ℕ, ◌+◌, ◌≤◌}
 use lib.ListN.{get_or}
 use lib.Ieee.{Float, nan}
-use Rattle.sequence.specs.declared.Item.{Item}
+use Rattle.std.specs.Prelude.{Option}
 use Rattle.sequence.specs.Lists.{each}
-use Rattle.sequence.specs.Sheets.{Triplet, emit, Sheets, Puts}
+use Rattle.sequence.specs.declared.Triplet.{Triplet}
+use Rattle.sequence.specs.Sheets.{Sheets, Puts}
 use Rattle.sequence.proofs.Lists.{each_same}
 use Rattle.sequence.proofs.Sheets.{done}
 use Rattle.network.specs.declared.Counts.{Counts}
@@ -20,28 +21,30 @@ use Rattle.kkt.specs.declared.Side.{Side}
 use Rattle.kkt.specs.declared.Side.TheVariants.{Above, Below, Level}
 use Rattle.kkt.specs.Slots.{term_pair}
 use Rattle.kkt.specs.Matrix.{kept, emitted}
-use Rattle.kkt.specs.Walks.{dual_on, row_times, column_times}
+use Rattle.kkt.specs.Walks.{emits, dual_on, row_times, column_times}
 use Rattle.kkt.proofs.Emitted.{emitted_each}
 
 -- term t's entry in its row, and that in its column
 abbrev pub pair : KktIdx → List ℕ → List Float → Side → Float → ℕ → Block → ℕ → List Triplet
 pair x ti tc s dual row b t =
-    emit (kept (start_in x Linear + row) (start_in x b + get_or ti t 0) (row_times s dual (get_or tc t nan)))
-    ++ emit (kept (start_in x b + get_or ti t 0) (start_in x Linear + row) (column_times s (get_or tc t nan)))
+    emits
+    (kept (start_in x Linear + row) (start_in x b + get_or ti t 0) (row_times s dual (get_or tc t nan))
+    ∷ kept (start_in x b + get_or ti t 0) (start_in x Linear + row) (column_times s (get_or tc t nan))
+    ∷ [])
 
--- two items that were put are the pair
-pub pair_put : (x : KktIdx) (ti : List ℕ) (tc : List Float) (s : Side) (row : ℕ) (b : Block) (t : ℕ) (dual : Float) {l i : ℕ} {u v : Float} {m n : Item} {S₀ S₁ : Sheets}
+-- two entries that were put are the pair
+pub pair_put : (x : KktIdx) (ti : List ℕ) (tc : List Float) (s : Side) (row : ℕ) (b : Block) (t : ℕ) (dual : Float) {l i : ℕ} {u v : Float} {m n : Option Triplet} {S₀ S₁ : Sheets}
     → i ≡ get_or ti t 0 → u ≡ row_times s dual (get_or tc t nan) → v ≡ column_times s (get_or tc t nan)
     → m ≡ kept (start_in x Linear + row) (start_in x b + i) u → n ≡ kept (start_in x b + i) (start_in x Linear + row) v
-    → Puts l (emit m ++ emit n) S₀ S₁ → Puts l (pair x ti tc s dual row b t) S₀ S₁
+    → Puts l (emits (m ∷ n ∷ [])) S₀ S₁ → Puts l (pair x ti tc s dual row b t) S₀ S₁
 pair_put x ti tc s row b t dual e f g h k p = rw (h, k, e, f, g) at p
 
 module _ (x : KktIdx) (R : Field → ℕ → Float) (S : Entry → ℕ → Float) (c : Counts) (w ti : List ℕ) (tc : List Float) where
   pair_is : (s : Side) (q row : ℕ) (b : Block) (t : ℕ) → emitted (start_in x) R S (term_pair c w ti tc s q row b t) ≡ pair x ti tc s (dual_on s c w ti tc R S q) row b t
-  unfolding emitted
-  pair_is Above q row b t = rw append-nil
-  pair_is Below q row b t = rw append-nil
-  pair_is Level q row b t = rw append-nil
+  unfolding emitted emits
+  pair_is Above q row b t = refl
+  pair_is Below q row b t = refl
+  pair_is Level q row b t = refl
 
   pub pairs_done : {l : ℕ} {S₀ S₁ : Sheets} {dual : Float} (s : Side) (q row : ℕ) (b : Block) (start : ℕ) {t n : ℕ}
       → dual ≡ dual_on s c w ti tc R S q → t ≤ n → n ≤ t → Puts l (each t (λ i. pair x ti tc s dual row b (start + i))) S₀ S₁

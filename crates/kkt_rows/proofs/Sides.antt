@@ -6,8 +6,9 @@ use mathlib.Core.List.{List, [], append-nil}
 use Prim.Native.Nat.{ℕ, ◌+◌}
 use lib.Dec.{T}
 use lib.Ieee.{Float}
-use Rattle.sequence.specs.declared.Item.{Item}
+use Rattle.std.specs.Prelude.{Option}
 use Rattle.sequence.specs.Lists.{each}
+use Rattle.sequence.specs.declared.Triplet.{Triplet}
 use Rattle.sequence.specs.Sheets.{emit, Sheets, Puts}
 use Rattle.sequence.proofs.Sheets.{none}
 use Rattle.network.specs.declared.Counts.{Counts}
@@ -52,7 +53,7 @@ module _ (x : KktIdx) (R : Field → ℕ → Float) (S : Entry → ℕ → Float
     level_done Level q row h p = rw append-nil p
 
     -- the terms, and then the slack on the diagonal
-    pub slack_done : {S₀ S₁ S₂ : Sheets} {slack : Float} {t : Item} (s : Side) (q row : ℕ) → slackens s ≡ true → slack ≡ slack_on s c w ti tc R S q
+    pub slack_done : {S₀ S₁ S₂ : Sheets} {slack : Float} {t : Option Triplet} (s : Side) (q row : ℕ) → slackens s ≡ true → slack ≡ slack_on s c w ti tc R S q
         → t ≡ kept (start_in x Linear + row) (start_in x Linear + row) slack
         → Puts l (emitted (start_in x) R S (term_slots c w ti tc s q row)) S₀ S₁ → Puts l (emit t) S₁ S₂ → Puts l (emitted (start_in x) R S (side_slots c w ti tc s q row)) S₀ S₂
     slack_done Above q row h e f p o =

@@ -15,7 +15,7 @@ ghost use Rattle.kkt.specs.Matrix.{emitted};
 ghost use Rattle.kkt.specs.Walks.{Lent, slackens, dual_on, slack_on, row_times, column_times};
 ghost use Rattle.kkt.specs.declared.Side.TheVariants.{Above, Below};
 
-use kkt::{Side, entry, put_two};
+use kkt::{Side, entry, put_all};
 use kkt_index::{Block, KktIdx, rows_of};
 use model::RowLimits;
 use model::rows::row_limits;
@@ -81,15 +81,11 @@ fn put_terms(
     for t in 0..count {
         let i = wide(term_index[start + t]);
         let coefficient = term_coefficient[start + t];
-        k = put_two(
-            rows,
-            cols,
-            values,
-            limit,
-            k,
+        let pair = [
             entry(x, Block::Linear, row, b, i, row_times(s, dual, coefficient)),
             entry(x, b, i, Block::Linear, row, column_times(s, coefficient)),
-        );
+        ];
+        k = put_all(rows, cols, values, limit, k, pair);
     }
     k
 }

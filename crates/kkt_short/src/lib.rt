@@ -1,7 +1,7 @@
 // Columns of at most three entries: those of branches, of buses' sheds and of references.
 #![tactic(auto)]
 
-ghost use Rattle.std.specs.Prelude.{◌≡◌, ◌+◌, ◌<◌, ◌≤◌, cond};
+ghost use Rattle.std.specs.Prelude.{◌≡◌, ◌+◌, ◌<◌, ◌≤◌, cond, None};
 ghost use Rattle.sequence.specs.Lists.{each};
 ghost use Rattle.sequence.specs.Sheets.{held, Puts, Room};
 ghost use Rattle.network.specs.declared.Part.TheVariants.{BrFrom, BrTo};
@@ -14,27 +14,35 @@ ghost use Rattle.snapping.specs.States.{by_state};
 ghost use Rattle.kkt.specs.declared.Work.TheVariants.{Short};
 ghost use Rattle.kkt.specs.Slots.{Site, columns, turns_of, flow_column, psh_column, lam_lb_column, lam_ub_column, gamma_lb_column, gamma_ub_column, rho_lb_column, rho_ub_column, mu_lb_column, mu_ub_column, nu_flow_column, eta_column};
 ghost use Rattle.kkt.specs.Matrix.{kept, emitted};
-ghost use Rattle.kkt.specs.Walks.{Lent, item_in, three, nothing, triple, work_of};
+ghost use Rattle.kkt.specs.Walks.{Lent, item_in, three, triple, work_of};
 
-use kkt::{Three, entry, nothing, put_three};
+use kkt::{entry, put_all};
 use kkt_index::{Block, KktIdx};
 use model::withdrawal::shed_cap_at;
 use network::layout::{reading, word};
 use network::{Counts, Field, Part};
+use sequence::Triplet;
 use snapping::{BusState, angle, bus_state, is_fixed_zero_shed, shed_of};
 use solution::{Entry, solved_at};
 
 // A bound's column: its gradient's entry a, and its slack d on the diagonal.
-fn bound_column(x: KktIdx, a: Block, b: Block, i: usize, gradient: f64, slack: f64) -> Three
+fn bound_column(
+    x: KktIdx,
+    a: Block,
+    b: Block,
+    i: usize,
+    gradient: f64,
+    slack: f64,
+) -> [Option<Triplet>; 3]
     requires narrow { Narrow x }
     requires i_bound { i ≤ 0x1_0000 }
-    ensures { result ≡ three (kept (start_in x a + i) (start_in x b + i) gradient) (kept (start_in x b + i) (start_in x b + i) slack) nothing }
+    ensures { result ≡ three (kept (start_in x a + i) (start_in x b + i) gradient) (kept (start_in x b + i) (start_in x b + i) slack) None }
 {
-    Three {
-        first: entry(x, a, i, b, i, gradient),
-        second: entry(x, b, i, b, i, slack),
-        third: nothing(),
-    }
+    [
+        entry(x, a, i, b, i, gradient),
+        entry(x, b, i, b, i, slack),
+        None,
+    ]
 }
 
 // A column of branch e with one entry at each of its ends, and one more.
@@ -48,7 +56,7 @@ fn ends_column(
     to: f64,
     a: Block,
     own: f64,
-) -> Three
+) -> [Option<Triplet>; 3]
     requires wired { Wired c wiring.now }
     requires narrow { Narrow x }
     requires e_lt_branches { e < c.branches }
@@ -56,11 +64,11 @@ fn ends_column(
 {
     let p = word(wiring, c, Part::BrFrom, e);
     let q = word(wiring, c, Part::BrTo, e);
-    Three {
-        first: entry(x, Block::Va, p, b, e, from),
-        second: entry(x, Block::Va, q, b, e, to),
-        third: entry(x, a, e, b, e, own),
-    }
+    [
+        entry(x, Block::Va, p, b, e, from),
+        entry(x, Block::Va, q, b, e, to),
+        entry(x, a, e, b, e, own),
+    ]
 }
 
 // f columns: line-bound stationarity and flow definition.
@@ -71,18 +79,18 @@ fn flow_column(
     c: Counts,
     x: KktIdx,
     e: usize,
-) -> Three
+) -> [Option<Triplet>; 3]
     requires lent { Lent c wiring.now readings.now sheet.now x }
     requires e_lt_branches { e < c.branches }
     ensures { result ≡ triple (item_in c readings.now sheet.now x) (flow_column e) }
 {
     let lower = solved_at(sheet, c, x.pieces, Entry::LamLb, e);
     let upper = solved_at(sheet, c, x.pieces, Entry::LamUb, e);
-    Three {
-        first: entry(x, Block::LamLb, e, Block::Flow, e, lower),
-        second: entry(x, Block::LamUb, e, Block::Flow, e, -upper),
-        third: entry(x, Block::NuFlow, e, Block::Flow, e, 1.0),
-    }
+    [
+        entry(x, Block::LamLb, e, Block::Flow, e, lower),
+        entry(x, Block::LamUb, e, Block::Flow, e, -upper),
+        entry(x, Block::NuFlow, e, Block::Flow, e, 1.0),
+    ]
 }
 
 // psh columns: shedding-bound stationarity (a fixed bus has a unit) and power balance. The bus's state
@@ -94,7 +102,7 @@ fn psh_column(
     c: Counts,
     x: KktIdx,
     i: usize,
-) -> Three
+) -> [Option<Triplet>; 3]
     requires lent { Lent c wiring.now readings.now sheet.now x }
     requires i_lt_buses { i < c.buses }
     ensures { result ≡ triple (item_in c readings.now sheet.now x) (psh_column wiring.now i) }
@@ -105,8 +113,8 @@ fn psh_column(
     let lower = solved_at(sheet, c, x.pieces, Entry::MuLb, i);
     let upper = solved_at(sheet, c, x.pieces, Entry::MuUb, i);
     let state = bus_state(cap, shed);
-    Three {
-        first: entry(
+    [
+        entry(
             x,
             Block::MuLb,
             i,
@@ -114,7 +122,7 @@ fn psh_column(
             i,
             if_fixed(fixed, 1.0, by_state(state, lower - upper, lower, 0.0, 0.0)),
         ),
-        second: entry(
+        entry(
             x,
             Block::MuUb,
             i,
@@ -122,8 +130,8 @@ fn psh_column(
             i,
             if_fixed(fixed, 0.0, -by_state(state, 0.0, 0.0, upper, 0.0)),
         ),
-        third: entry(x, Block::NuBal, i, Block::Psh, i, 1.0),
-    }
+        entry(x, Block::NuBal, i, Block::Psh, i, 1.0),
+    ]
 }
 
 // One of four values, by the state of a bus.
@@ -153,7 +161,7 @@ fn lam_lb_column(
     c: Counts,
     x: KktIdx,
     e: usize,
-) -> Three
+) -> [Option<Triplet>; 3]
     requires lent { Lent c wiring.now readings.now sheet.now x }
     requires e_lt_branches { e < c.branches }
     ensures { result ≡ triple (item_in c readings.now sheet.now x) (lam_lb_column e) }
@@ -170,7 +178,7 @@ fn lam_ub_column(
     c: Counts,
     x: KktIdx,
     e: usize,
-) -> Three
+) -> [Option<Triplet>; 3]
     requires lent { Lent c wiring.now readings.now sheet.now x }
     requires e_lt_branches { e < c.branches }
     ensures { result ≡ triple (item_in c readings.now sheet.now x) (lam_ub_column e) }
@@ -188,7 +196,7 @@ fn gamma_lb_column(
     c: Counts,
     x: KktIdx,
     e: usize,
-) -> Three
+) -> [Option<Triplet>; 3]
     requires lent { Lent c wiring.now readings.now sheet.now x }
     requires e_lt_branches { e < c.branches }
     ensures { result ≡ triple (item_in c readings.now sheet.now x) (gamma_lb_column c wiring.now e) }
@@ -216,7 +224,7 @@ fn gamma_ub_column(
     c: Counts,
     x: KktIdx,
     e: usize,
-) -> Three
+) -> [Option<Triplet>; 3]
     requires lent { Lent c wiring.now readings.now sheet.now x }
     requires e_lt_branches { e < c.branches }
     ensures { result ≡ triple (item_in c readings.now sheet.now x) (gamma_ub_column c wiring.now e) }
@@ -245,7 +253,7 @@ fn rho_lb_column(
     c: Counts,
     x: KktIdx,
     j: usize,
-) -> Three
+) -> [Option<Triplet>; 3]
     requires lent { Lent c wiring.now readings.now sheet.now x }
     requires j_lt_generators { j < c.generators }
     ensures { result ≡ triple (item_in c readings.now sheet.now x) (rho_lb_column j) }
@@ -261,7 +269,7 @@ fn rho_ub_column(
     c: Counts,
     x: KktIdx,
     j: usize,
-) -> Three
+) -> [Option<Triplet>; 3]
     requires lent { Lent c wiring.now readings.now sheet.now x }
     requires j_lt_generators { j < c.generators }
     ensures { result ≡ triple (item_in c readings.now sheet.now x) (rho_ub_column j) }
@@ -278,7 +286,7 @@ fn mu_lb_column(
     c: Counts,
     x: KktIdx,
     i: usize,
-) -> Three
+) -> [Option<Triplet>; 3]
     requires lent { Lent c wiring.now readings.now sheet.now x }
     requires i_lt_buses { i < c.buses }
     ensures { result ≡ triple (item_in c readings.now sheet.now x) (mu_lb_column wiring.now i) }
@@ -302,7 +310,7 @@ fn mu_ub_column(
     c: Counts,
     x: KktIdx,
     i: usize,
-) -> Three
+) -> [Option<Triplet>; 3]
     requires lent { Lent c wiring.now readings.now sheet.now x }
     requires i_lt_buses { i < c.buses }
     ensures { result ≡ triple (item_in c readings.now sheet.now x) (mu_ub_column wiring.now i) }
@@ -328,7 +336,7 @@ fn nu_flow_column(
     c: Counts,
     x: KktIdx,
     e: usize,
-) -> Three
+) -> [Option<Triplet>; 3]
     requires lent { Lent c wiring.now readings.now sheet.now x }
     requires e_lt_branches { e < c.branches }
     ensures { result ≡ triple (item_in c readings.now sheet.now x) (nu_flow_column c wiring.now e) }
@@ -356,17 +364,13 @@ fn eta_column(
     c: Counts,
     x: KktIdx,
     k: usize,
-) -> Three
+) -> [Option<Triplet>; 3]
     requires lent { Lent c wiring.now readings.now sheet.now x }
     requires k_lt_references { k < c.references }
     ensures { result ≡ triple (item_in c readings.now sheet.now x) (eta_column c wiring.now k) }
 {
     let bus = word(wiring, c, Part::References, k);
-    Three {
-        first: entry(x, Block::Va, bus, Block::Eta, k, 1.0),
-        second: nothing(),
-        third: nothing(),
-    }
+    [entry(x, Block::Va, bus, Block::Eta, k, 1.0), None, None]
 }
 
 // How many columns a block has, where they are put one by one.
@@ -404,7 +408,7 @@ fn short_column(
     x: KktIdx,
     b: Block,
     i: usize,
-) -> Three
+) -> [Option<Triplet>; 3]
     requires lent { Lent c wiring.now readings.now sheet.now x }
     requires b_value { work_of b ≡ Short }
     requires i_bound { i < turns_of c b }
@@ -423,22 +427,7 @@ fn short_column(
         Block::MuUb => mu_ub_column(wiring, readings, sheet, c, x, i),
         Block::NuFlow => nu_flow_column(wiring, readings, sheet, c, x, i),
         Block::Eta => eta_column(wiring, readings, sheet, c, x, i),
-        Block::Va => nothings(),
-        Block::Pg => nothings(),
-        Block::Cost => nothings(),
-        Block::Segments => nothings(),
-        Block::Linear => nothings(),
-        Block::NuBal => nothings(),
-    }
-}
-
-fn nothings() -> Three
-    ensures { result ≡ three nothing nothing nothing }
-{
-    Three {
-        first: nothing(),
-        second: nothing(),
-        third: nothing(),
+        _ => unreachable!(),
     }
 }
 
@@ -466,7 +455,7 @@ pub fn put_short(
     let to = turns_of(c, b);
     let mut k = at;
     for i in 0..to {
-        k = put_three(
+        k = put_all(
             rows,
             cols,
             values,

@@ -11,7 +11,7 @@ use lib.ListN.{get_or}
 use lib.Dec.{eqb}
 use lib.Ieee.{Float, nan, neg, eq, of_bits}
 use Rattle.float64.specs.Values.{nought, add_at, sub_at}
-use Rattle.sequence.specs.Lists.{each, when, turns, some}
+use Rattle.sequence.specs.Lists.{each, turns, some}
 use Rattle.sequence.specs.Sheets.{emit, Sheets, Puts}
 use Rattle.sequence.proofs.Lists.{each_same, each_skip, each_add, turns_same, turns_skip, or_none}
 use Rattle.sequence.proofs.Sheets.{then}
@@ -142,12 +142,12 @@ module _ (c : Counts) (w : List ℕ) (r : List Float) (i : ℕ) where
 -- ---- the sums by blocks of 16
 
 pub span_none : (less : Bool) (acc : List Float) (from col a b : ℕ) → ((i : ℕ) → i < b → get_or acc (a + i) nan ≡ nought) → span_of less acc from col a b ≡ []
-unfolding span_of emit when each eq of_bits neg
+unfolding span_of emit each eq of_bits neg
 span_none true acc from col a b h = each_skip _ 0 b (omega arith) (λ i p q. rw (h i q))
 span_none false acc from col a b h = each_skip _ 0 b (omega arith) (λ i p q. rw (h i q))
 
 -- one block more
-pub block_more : {limit : ℕ} {S₀ S₁ S₂ : Sheets} (less : Bool) (acc : List Float) (from col n q b : ℕ) → 16 * q ≤ n → b ≡ min 16 (n - 16 * q)
+pub block_more : {limit : ℕ} {S₀ S₁ S₂ : Sheets} (less : Bool) (acc : List Float) (from col n q b : ℕ) → 16 * q ≤ n → b ≡ min (n - 16 * q) 16
     → Puts limit (each (min (16 * q) n) (λ i. emit (sum_item less acc from col i))) S₀ S₁ → Puts limit (span_of less acc from col (16 * q) b) S₁ S₂
     → Puts limit (each (min (16 * (q + 1)) n) (λ i. emit (sum_item less acc from col i))) S₀ S₂
 unfolding span_of

@@ -7,7 +7,8 @@ ghost use Rattle.float64.specs.Values.{nought};
 ghost use Rattle.sequence.specs.Sheets.{held, Puts, Room};
 ghost use Rattle.kkt.specs.Walks.{taken, sum_item, span_of};
 
-use sequence::{Item, least, put};
+use kkt::kept;
+use sequence::{Triplet, put};
 
 // A sum taken negatively, or as it is.
 pub fn taken(less: bool, v: f64) -> f64
@@ -17,17 +18,11 @@ pub fn taken(less: bool, v: f64) -> f64
 }
 
 // Sum i, at row i of a column: none where it is zero.
-fn sum_item(acc: &[f64], col: usize, i: usize) -> Item
+fn sum_item(acc: &[f64], col: usize, i: usize) -> Option<Triplet>
     requires { (i < length acc.now) × (col ≤ 256) × (i ≤ 256) }
     ensures { result ≡ sum_item false acc.now 0 col i }
 {
-    let value = acc[i];
-    Item {
-        keep: value != 0.0,
-        row: i as u32,
-        col: col as u32,
-        value,
-    }
+    kept(i, col, acc[i])
 }
 
 // Sums a to a + b - 1, which are all +0 where they are not on.
@@ -50,10 +45,10 @@ fn put_sum_span(
     ensures puts { Puts limit (span_of false acc.now 0 col a b) (held rows.entry cols.entry values.entry at) (held rows.exit cols.exit values.exit result) }
     ensures most { result ≤ at + b }
 {
-    let mut k = at;
     if !on {
-        return k;
+        return at;
     }
+    let mut k = at;
     for i in 0..b {
         k = put(rows, cols, values, limit, k, sum_item(acc, col, a + i));
     }
@@ -88,7 +83,7 @@ pub fn put_sums(
             acc,
             col,
             a,
-            least(16, n - a),
+            (n - a).min(16),
             rows,
             cols,
             values,

@@ -10,14 +10,20 @@ use lib.Ieee.{Float}
 use borrow.Author.Tests.{le-leb, lt-leb, lt-ltb, le-ltb, eqb-true, ne_eqb}
 use Rattle.sequence.specs.Lists.{front, made}
 use Rattle.sequence.specs.Answers.{Test, test, first_of, marked, filled}
-use Rattle.sequence.specs.Sheets.{Triplet, laid, lays, lays_if, short_list}
+use Rattle.sequence.specs.declared.Triplet.{Triplet}
+use Rattle.sequence.specs.Sheets.{laid, lays, lays_if, short_list}
 use Rattle.sequence.proofs.Lists.{and_left, and_right, made_length}
 use Rattle.sequence.proofs.Answers.{no_test, passed, holding, first_stands, first_passes, fills_refused, fills_done}
 use Rattle.sequence.proofs.Sheets.{lays_refused}
 use Rattle.sequence.proofs.Fronts.{one_front}
-use Rattle.network.specs.Numbers.{Network, network_tests, sizes_hold}
+use Rattle.network.specs.Numbers.{Network, network_tests, network_number, sizes_hold}
 use Rattle.model.specs.Calls.{counted, element_tests, element_number, element_call, sheet_number, bus_call, row_kind, row_kind_number, row_kind_call, list_number}
 use Rattle.model.specs.Rows.{row_limits, kind_of}
+
+-- a network's number is that of its tests
+pub numbered : (N : Network) {k : ℕ} → k ≡ network_number N → k ≡ first_of (network_tests N true true)
+unfolding network_number
+numbered N e = e
 
 module _ (N : Network) (sizes values : Bool) where
   network_marked : T (marked (network_tests N sizes values))

@@ -1,11 +1,14 @@
 -- What each public call answers and leaves, for every input: numbers in 01's order, counts, and the words of its sheets. Assumes nothing.
-use Rattle.std.specs.Prelude.{ℕ, Bool, true, cond, ◌&&◌, List, [], ◌∷◌, ◌++◌, length, eqb, ltb, leb, Float}
+use Rattle.std.specs.Prelude.{ℕ, Bool, true, cond, ◌&&◌, List, [], ◌∷◌, ◌++◌, length, eqb, ltb, leb, Float, Result, Ok, Err}
 use Rattle.float64.specs.Values.{within, raw_limit, sheet_limit}
 use Rattle.sequence.specs.Lists.{made}
-use Rattle.sequence.specs.Answers.{Test, test, first_of, short, Filled, fills}
-use Rattle.sequence.specs.Sheets.{Triplet, Laid, lays, short_list}
+use Rattle.sequence.specs.declared.Refusal.{Refusal}
+use Rattle.sequence.specs.Answers.{Test, test, first_of, short, Filled, fills, refusal_number}
+use Rattle.sequence.specs.declared.Triplet.{Triplet}
+use Rattle.sequence.specs.Sheets.{Laid, lays, short_list}
 use Rattle.network.specs.declared.Counts.{Counts}
-use Rattle.model.specs.declared.RowKind.{RowKind}
+use Rattle.model.specs.declared.RowKind as declared
+use Rattle.model.specs.Kinds.{kind_number}
 use Rattle.network.specs.Layout.{counts_of}
 use Rattle.network.specs.Numbers.{Network, network_tests, all_within}
 use Rattle.model.specs.Quantities.{shed_cap, flow_offset, phase, network_at, fixed_at, generator_cost, evaluate}
@@ -44,14 +47,23 @@ evaluate_call N q f pg sheet =
     element_call N (eqb (length f) (counted N).branches && eqb (length pg) (counted N).generators) (all_within sheet_limit f && all_within sheet_limit pg) q (counted N).rows
     (evaluate (counted N) N.wiring N.indexes N.coefficients q f pg) sheet
 
--- which limits a row has: their number, and the row's kind
+-- which limits a row has: the call's number, and the number of the row's kind
 unfoldable pub row_kind_number : Network → ℕ → ℕ
 row_kind_number N q = first_of (network_tests N true true ++ test 5 (leb (counted N).rows q) ∷ [])
 
-abbrev pub row_kind : ℕ → ℕ → RowKind
+pub record KindAnswer : Type 0 where
+  pub number : ℕ
+  pub kind : ℕ
+
+abbrev pub row_kind : ℕ → ℕ → KindAnswer
 row_kind n k = record { number = n; kind = k }
 
-unfoldable pub row_kind_call : Network → ℕ → RowKind
+-- what a call that hands this back says: kind 0 where it refuses
+abbrev pub kind_answered : Result declared.RowKind Refusal → KindAnswer
+kind_answered (Ok k) = row_kind 0 (kind_number k)
+kind_answered (Err e) = row_kind (refusal_number e) 0
+
+unfoldable pub row_kind_call : Network → ℕ → KindAnswer
 unfolding row_kind_number
 row_kind_call N q =
     cond (eqb (row_kind_number N q) 0) (row_kind 0 (kind_of (row_limits (counted N) N.wiring N.readings q))) (row_kind (row_kind_number N q) 0)

@@ -1,6 +1,9 @@
 // The network model: model/dc.rs's quantities of an accepted network.
 #![tactic(auto)]
 
+ghost use Rattle.std.specs.Prelude.{◌≡◌};
+ghost use Rattle.model.specs.Kinds.{kind_number};
+
 pub mod cost;
 pub mod dc;
 pub mod rows;
@@ -17,9 +20,21 @@ pub enum RowLimits {
     Equal(f64),
 }
 
-// Which limits a linear row has, as numbers: 0, or why there is no answer; and the row's kind.
-#[derive(Clone, Copy)]
-pub struct RowKind {
-    pub number: u32,
-    pub kind: u32,
+// Which limits a linear row has, without their values: a mask's number, and 4 for an equality.
+#[derive(Clone, Copy, Debug, PartialEq, Eq)]
+pub enum RowKind {
+    None = 0,
+    Upper = 1,
+    Lower = 2,
+    Both = 3,
+    Equal = 4,
+}
+
+impl RowKind {
+    // The number by which other languages know it.
+    pub fn number(self) -> u32
+        ensures { result ≡ kind_number self }
+    {
+        self as u32
+    }
 }

@@ -1,9 +1,10 @@
 // A linear row's limits, read from its mask and its two slots.
 ghost use Rattle.std.specs.Prelude.{◌≡◌, ◌<◌};
 ghost use Rattle.network.specs.Layout.{WiringLaid, ReadingsLaid};
+ghost use Rattle.model.specs.Kinds.{kind_number};
 ghost use Rattle.model.specs.Rows.{masked_limits, row_limits, is_equality, kind_of};
 
-use crate::RowLimits;
+use crate::{RowKind, RowLimits};
 use network::layout::{reading, word};
 use network::{Counts, Field, Part};
 
@@ -43,25 +44,19 @@ impl RowLimits {
     pub fn is_equality(self) -> bool
         ensures { result ≡ is_equality self }
     {
-        match self {
-            RowLimits::None => false,
-            RowLimits::Upper(_) => false,
-            RowLimits::Lower(_) => false,
-            RowLimits::Both(_, _) => false,
-            RowLimits::Equal(_) => true,
-        }
+        matches!(self, RowLimits::Equal(_))
     }
 
-    // A number for each case: the mask, and 4 for an equality.
-    pub fn kind(self) -> u32
-        ensures { result ≡ kind_of self }
+    // Which of the limits there are.
+    pub fn kind(self) -> RowKind
+        ensures { kind_number result ≡ kind_of self }
     {
         match self {
-            RowLimits::None => 0,
-            RowLimits::Upper(_) => 1,
-            RowLimits::Lower(_) => 2,
-            RowLimits::Both(_, _) => 3,
-            RowLimits::Equal(_) => 4,
+            RowLimits::None => RowKind::None,
+            RowLimits::Upper(_) => RowKind::Upper,
+            RowLimits::Lower(_) => RowKind::Lower,
+            RowLimits::Both(_, _) => RowKind::Both,
+            RowLimits::Equal(_) => RowKind::Equal,
         }
     }
 }

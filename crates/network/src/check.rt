@@ -1,16 +1,17 @@
 // Numbers 1 to 3 of a network, in the paper's order.
-ghost use Rattle.std.specs.Prelude.{◌≡◌, true, false, ◌&&◌, ℕ, ◌+◌, ◌<◌, ◌≤◌, T, ltb, length, get_or};
+ghost use Rattle.std.specs.Prelude.{◌≡◌, true, false, ◌&&◌, ℕ, ◌+◌, ◌<◌, ◌≤◌, T, ltb, length, get_or, IfOk};
 ghost use Rattle.std.specs.Float.Ieee.Positive.{positive};
 ghost use Rattle.sequence.specs.Lists.{before, every};
 ghost use Rattle.float64.specs.Values.{within, raw_limit};
-ghost use Rattle.sequence.specs.Answers.{first_of};
+ghost use Rattle.sequence.specs.Answers.{first_of, number_of};
 ghost use Rattle.network.specs.Layout.{counts_of, Few, WiringLaid, ReadingsLaid, row_terms, term_start, fields, segments_at};
-ghost use Rattle.network.specs.Numbers.{lent, few, lengths_hold, sums_hold, sizes_hold, limited, limited_at, part_limit, part_holds, terms_hold, wiring_holds, field_holds, all_within, readings_hold, network_tests, network_number, Wired, Termed, Accepted, flow_terms_hold, generation_terms_hold};
+ghost use Rattle.network.specs.Numbers.{lent, few, lengths_hold, sums_hold, sizes_hold, limited, limited_at, part_limit, part_holds, terms_hold, wiring_holds, field_holds, all_within, readings_hold, network_tests, network_number, flow_terms_hold, generation_terms_hold};
+ghost use Rattle.network.specs.Sites.{network_in, SiteOf};
 
 use crate::layout::{counts, part_size, wide, word};
-use crate::{Counts, Part};
+use crate::{Counts, Lent, Part, Site};
 use float64::{base_high, base_low, in_range, raw_limit, within};
-use sequence::both;
+use sequence::Refusal;
 
 // Whether no count is above its limit.
 fn few_counts(c: Counts) -> bool
@@ -271,7 +272,7 @@ pub fn all_within(xs: &[f64], limit: f64) -> bool
 {
     let mut ok = true;
     for i in 0..xs.len() {
-        ok = both(ok, within(xs[i], limit));
+        ok &= within(xs[i], limit);
     }
     ok
 }
@@ -304,46 +305,51 @@ pub fn readings_hold(
     all_within(term_coefficient, raw_limit())
 }
 
-// Numbers 1 to 3 of a network, with a call's own sizes and values: whether they hold.
-pub fn network_number_with(
-    wiring: &[u32],
-    readings: &[f64],
-    term_index: &[u32],
-    term_coefficient: &[f64],
-    sizes: bool,
-    values: bool,
-) -> u32
-    ensures value { result ≡ first_of (network_tests (lent wiring.entry readings.entry term_index.entry term_coefficient.entry) sizes values) }
-    ensures accepted { result ≡ 0 → Accepted (lent wiring.entry readings.entry term_index.entry term_coefficient.entry) (counts_of wiring.now) }
-{
-    if !sizes_hold(wiring, readings, term_index, term_coefficient) {
-        return 1;
+impl<'a> Lent<'a> {
+    // The network, where none of the numbers 1 to 3 is due: of them a call's own sizes and values are tested with the
+    // network's, and say whether they hold.
+    pub fn accept_with(self, sizes: bool, values: bool) -> Result<Site<'a>, Refusal>
+        ensures number { number_of result ≡ first_of (network_tests (network_in self.entry) sizes values) }
+        ensures accepted { IfOk result (SiteOf self.entry) }
+    {
+        let Lent {
+            wiring,
+            readings,
+            term_index,
+            term_coefficient,
+        } = self;
+        if !sizes_hold(wiring, readings, term_index, term_coefficient) {
+            return Err(Refusal::Size);
+        }
+        if !sizes {
+            return Err(Refusal::Size);
+        }
+        let counts = counts(wiring);
+        if !wiring_holds(wiring, term_index, counts) {
+            return Err(Refusal::Wiring);
+        }
+        if !readings_hold(wiring, readings, term_index, term_coefficient, counts) {
+            return Err(Refusal::Reading);
+        }
+        if values {
+            Ok(Site {
+                counts,
+                wiring,
+                readings,
+                term_index,
+                term_coefficient,
+            })
+        } else {
+            Err(Refusal::Reading)
+        }
     }
-    if !sizes {
-        return 1;
-    }
-    let c = counts(wiring);
-    if !wiring_holds(wiring, term_index, c) {
-        return 2;
-    }
-    if !readings_hold(wiring, readings, term_index, term_coefficient, c) {
-        return 3;
-    }
-    if values {
-        return 0;
-    }
-    3
-}
 
-// The number of a network: 0, or the lowest of 1 to 3 whose condition holds.
-pub fn network_number(
-    wiring: &[u32],
-    readings: &[f64],
-    term_index: &[u32],
-    term_coefficient: &[f64],
-) -> u32
-    ensures value { result ≡ network_number (lent wiring.entry readings.entry term_index.entry term_coefficient.entry) }
-    ensures accepted { result ≡ 0 → Accepted (lent wiring.entry readings.entry term_index.entry term_coefficient.entry) (counts_of wiring.now) }
-{
-    network_number_with(wiring, readings, term_index, term_coefficient, true, true)
+    // The same for a call with no sizes and values of its own.
+    #[tactic(auto, unfolding(crate::specs::Numbers::network_number))]
+    pub fn accept(self) -> Result<Site<'a>, Refusal>
+        ensures number { number_of result ≡ network_number (network_in self.entry) }
+        ensures accepted { IfOk result (SiteOf self.entry) }
+    {
+        self.accept_with(true, true)
+    }
 }

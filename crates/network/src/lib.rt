@@ -3,6 +3,9 @@
 
 pub mod check;
 pub mod layout;
+pub mod site;
+
+pub use site::{Lent, Site};
 
 // n, m, k, R, S, q, T.
 #[derive(Clone, Copy)]

@@ -2,32 +2,43 @@
 // at power 1, and its susceptance list, each double by its bits.
 #![tactic(auto)]
 
+use model::dc::{current_fixed_withdrawal, generator_cost, susceptance_coo};
+use network::Lent;
+use sequence::count;
+
 // Standard output, as every process is given it.
 const STDOUT_FILENO: i32 = 1;
 
 fn main() {
-    let wiring = [2u32, 1, 1, 1, 0, 0, 0, 0, 1, 0, 1, 0, 0, 0, 1, 1, 1];
+    let wiring = [2, 1, 1, 1, 0, 0, 0, 0, 1, 0, 1, 0, 0, 0, 1, 1, 1];
     let readings = [
         100.0, -4.0, 1.0, 0.0, 0.0, 4.0, -0.5, 0.5, 0.0, 2.0, 1.0, 0.0, 0.0, 3.0, 3.0, 0.0, 1.0,
         0.0, 0.0, 0.0, 0.0,
     ];
-    numbers(&wiring, &readings);
-    susceptances(&wiring, &readings);
+    let lent = Lent {
+        wiring: &wiring,
+        readings: &readings,
+        term_index: &[],
+        term_coefficient: &[],
+    };
+    numbers(lent);
+    susceptances(lent);
 }
 
-fn numbers(wiring: &[u32], readings: &[f64]) {
-    let index = &wiring[..0];
-    let coefficient = &readings[..0];
-    let number = network::check::network_number(wiring, readings, index, coefficient);
+fn numbers(lent: Lent<'_>) {
+    let number = lent.accept().map_or_else(|refusal| refusal.number(), |_| 0);
     io::write_all(STDOUT_FILENO, b"network ");
     io::print_decimal(STDOUT_FILENO, number as u64);
     io::write_all(STDOUT_FILENO, b"\n");
     let mut out = [0.0; 2];
-    model::dc::current_fixed_withdrawal(wiring, readings, index, coefficient, &mut out);
-    line(b"withdrawal ", out[0]);
-    line(b"withdrawal ", out[1]);
-    model::dc::generator_cost(wiring, readings, index, coefficient, 0, 1.0, &mut out);
-    line(b"cost ", out[0]);
+    let buses = count(current_fixed_withdrawal(lent, &mut out));
+    for withdrawal in out.iter().take(buses) {
+        line(b"withdrawal ", *withdrawal);
+    }
+    let costs = count(generator_cost(lent, 0, 1.0, &mut out));
+    for cost in out.iter().take(costs) {
+        line(b"cost ", *cost);
+    }
 }
 
 fn line(name: &[u8], x: f64) {
@@ -36,31 +47,16 @@ fn line(name: &[u8], x: f64) {
     io::write_all(STDOUT_FILENO, b"\n");
 }
 
-fn susceptances(wiring: &[u32], readings: &[f64]) {
-    let mut rows = [0u32; 8];
-    let mut cols = [0u32; 8];
+fn susceptances(lent: Lent<'_>) {
+    let mut rows = [0; 8];
+    let mut cols = [0; 8];
     let mut values = [0.0; 8];
-    let answer = model::dc::susceptance_coo(
-        wiring,
-        readings,
-        &wiring[..0],
-        &readings[..0],
-        &mut rows,
-        &mut cols,
-        &mut values,
-    );
-    let count = answer.count;
-    for i in 0..8usize {
-        if i < count {
-            cell(rows[i], cols[i], values[i]);
-        }
+    let entries = count(susceptance_coo(lent, &mut rows, &mut cols, &mut values));
+    for ((row, col), value) in rows.iter().zip(&cols).zip(&values).take(entries) {
+        io::write_all(STDOUT_FILENO, b"susceptance ");
+        io::print_decimal(STDOUT_FILENO, *row as u64);
+        io::write_all(STDOUT_FILENO, b" ");
+        io::print_decimal(STDOUT_FILENO, *col as u64);
+        line(b" ", *value);
     }
-}
-
-fn cell(row: u32, col: u32, value: f64) {
-    io::write_all(STDOUT_FILENO, b"susceptance ");
-    io::print_decimal(STDOUT_FILENO, row as u64);
-    io::write_all(STDOUT_FILENO, b" ");
-    io::print_decimal(STDOUT_FILENO, col as u64);
-    line(b" ", value);
 }

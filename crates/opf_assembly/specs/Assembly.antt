@@ -1,12 +1,12 @@
 -- problem/dc.rs's `assemble_opf`: min 1/2 x'Px + q'x s.t. Ax + s = b. P's and A's entries in the Rust's order of writing, each a row, a column and an expression in its grouping; q and b by column and row.
 -- Main definitions: `a_entries`, `a_triplets`, `p_triplets`, `q_sheet`, `b_sheet`. Assumes nothing.
-use Rattle.std.specs.Prelude.{ℕ, ◌+◌, not, List, [], ◌∷◌, ◌++◌, length, get_or, eqb, Float}
+use Rattle.std.specs.Prelude.{ℕ, ◌+◌, not, List, [], ◌∷◌, ◌++◌, length, get_or, eqb, Float, Option}
 use Rattle.std.specs.Float.{nan}
 use Rattle.std.specs.Float.Ieee.{eq}
 use Rattle.float64.specs.Values.{nought, whole}
 use Rattle.sequence.specs.Lists.{each, when}
-use Rattle.sequence.specs.declared.Item.{Item}
-use Rattle.sequence.specs.Sheets.{Triplet, item, emit}
+use Rattle.sequence.specs.declared.Triplet.{Triplet}
+use Rattle.sequence.specs.Sheets.{item, emit}
 use Rattle.network.specs.declared.Counts.{Counts}
 use Rattle.network.specs.declared.Field.{Field}
 use Rattle.network.specs.declared.Part.TheVariants.{BrFrom, BrTo, GenBus, References, GeneratorFlags, ThermalFlags, AngleFlags, FlowTerms, GenerationTerms}
@@ -152,7 +152,7 @@ module _ (c : Counts) (w : List ℕ) (r : List Float) where
 
 -- by where the blocks of rows and of columns start
 module _ (row_at : OpfRow → ℕ) (column_at : OpfColumn → ℕ) (R : Field → ℕ → Float) (S : Entry → ℕ → Float) where
-  abbrev pub item_by : Coefficient → Item
+  abbrev pub item_by : Coefficient → Option Triplet
   item_by x =
       item (not (eq (eval R S x.what) nought)) (row_at x.row.0 + x.row.1) (column_at x.col.0 + x.col.1) (eval R S x.what)
 

@@ -132,10 +132,7 @@ pub fn equalities_of(limits: RowLimits) -> usize
     ensures { result ≡ equalities limits }
 {
     match limits {
-        RowLimits::None => 0,
-        RowLimits::Upper(_) => 0,
-        RowLimits::Lower(_) => 0,
-        RowLimits::Both(_, _) => 0,
+        RowLimits::None | RowLimits::Upper(_) | RowLimits::Lower(_) | RowLimits::Both(_, _) => 0,
         RowLimits::Equal(_) => 1,
     }
 }
@@ -145,11 +142,9 @@ pub fn inequalities_of(limits: RowLimits) -> usize
     ensures { result ≡ inequalities limits }
 {
     match limits {
-        RowLimits::None => 0,
-        RowLimits::Upper(_) => 1,
-        RowLimits::Lower(_) => 1,
+        RowLimits::None | RowLimits::Equal(_) => 0,
+        RowLimits::Upper(_) | RowLimits::Lower(_) => 1,
         RowLimits::Both(_, _) => 2,
-        RowLimits::Equal(_) => 0,
     }
 }
 

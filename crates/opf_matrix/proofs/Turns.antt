@@ -1,6 +1,7 @@
 -- A turn of a group by its counts, and the counts of the next: each is as the specification names it.
--- Main results: `turn_is`, `counts_of`, `next_is`, `shed_turn`, `capability_turn`, `ranks_few`, `ranks_none`. Assumes nothing.
-use mathlib.Core.Path.{◌≡◌, refl, ap}
+-- Main results: `turn_is`, `counts_of`, `next_is`, `next_is_either`, `shed_turn`, `capability_turn`, `ranks_few`, `ranks_none`. Assumes nothing.
+use mathlib.Core.Path.{◌≡◌, refl, ap, ◌∙◌}
+use mathlib.Core.Logic.{◌⊎◌, inl, inr}
 use mathlib.Core.Bool.{Bool, true, false, not, cond}
 use mathlib.Core.List.{List}
 use Prim.Native.Nat.{ℕ, ◌+◌, ◌*◌, ◌≤◌, ◌<◌}
@@ -34,10 +35,14 @@ use Rattle.opf_matrix.specs.Groups.{size_of, ranks, entries_of, ranks_at}
 use Rattle.opf_program.proofs.Triplets.{one_put, single_put, two_put}
 use Rattle.opf_program.proofs.Branches.{pair}
 
--- ---- the group that a test found
+-- ---- the group that a test found, or the two that it may have found
 
 pub below : (c : Counts) (i : ℕ) {g k : Group} → g ≡ k → i < size_of c g → i < size_of c k
 below c i e h = rw e at h
+
+pub below_either : (c : Counts) (i : ℕ) {g k m : Group} → (g ≡ k) ⊎ (g ≡ m) → size_of c m ≡ size_of c k → i < size_of c g → i < size_of c k
+below_either c i (inl e) s h = rw e at h
+below_either c i (inr e) s h = rw (e, s) at h
 
 module _ (c : Counts) (w : List ℕ) (r : List Float) (i : ℕ) {g k : Group} where
   pub counts_of : {p : Ranks} → g ≡ k → p ≡ ranks_at c w r g i → p ≡ ranks_at c w r k i
@@ -45,6 +50,14 @@ module _ (c : Counts) (w : List ℕ) (r : List Float) (i : ℕ) {g k : Group} wh
 
   pub next_is : {p : Ranks} → g ≡ k → p ≡ ranks_at c w r k (i + 1) → p ≡ ranks_at c w r g (i + 1)
   next_is e h = rw e h
+
+  pub counts_of_either : {m : Group} {p : Ranks} → (g ≡ k) ⊎ (g ≡ m) → ranks_at c w r m i ≡ ranks_at c w r k i → p ≡ ranks_at c w r g i → p ≡ ranks_at c w r k i
+  counts_of_either (inl e) s h = rw e at h
+  counts_of_either (inr e) s h = rw e at h ∙ s
+
+  pub next_is_either : {m : Group} {p : Ranks} → (g ≡ k) ⊎ (g ≡ m) → ranks_at c w r m (i + 1) ≡ ranks_at c w r k (i + 1) → p ≡ ranks_at c w r k (i + 1) → p ≡ ranks_at c w r g (i + 1)
+  next_is_either (inl e) s h = rw e h
+  next_is_either (inr e) s h = rw (e, s) h
 
   pub turn_is : (x : OpfLayout) (ti : List ℕ) (tc : List Float) {l : ℕ} {S₀ S₁ : Sheets} → g ≡ k → Puts l (written x c r (entries_of c w r ti tc k i)) S₀ S₁ → Puts l (written x c r (entries_of c w r ti tc g i)) S₀ S₁
   turn_is x ti tc e p = rw e p

@@ -1,13 +1,14 @@
 -- The groups one after the other are the whole of A, by the layout's own starts, and P's entries the whole of P.
--- Main results: `size_few`, `four_groups`, `a_done`, `quad_done`. Assumes nothing.
-use mathlib.Core.Path.{◌≡◌, ap, ◌∙◌}
-use mathlib.Core.List.{List, ◌++◌, append_assoc}
+-- Main results: `size_few`, `a_done`, `quad_done`. Assumes nothing.
+use mathlib.Core.Path.{◌≡◌}
+use mathlib.Core.List.{List, append_assoc}
 use Prim.Native.Nat.{ℕ, ◌+◌, ◌≤◌}
 use native.Mathlib.Omega.{arith}
 use lib.Ieee.{Float, binary64, mul}
 use Rattle.float64.specs.Values.{whole}
 use Rattle.sequence.specs.Lists.{each}
-use Rattle.sequence.specs.Sheets.{Triplet, Sheets, Puts}
+use Rattle.sequence.specs.declared.Triplet.{Triplet}
+use Rattle.sequence.specs.Sheets.{Sheets, Puts}
 use Rattle.network.specs.declared.Counts.{Counts}
 use Rattle.network.specs.declared.Field.TheVariants.{Cq}
 use Rattle.network.specs.Layout.{reading, Few}
@@ -18,10 +19,10 @@ use Rattle.opf_layout.proofs.Counting.{columns_of, rows_of}
 use Rattle.opf_matrix.specs.declared.Group.{Group}
 use Rattle.opf_matrix.specs.declared.Group.TheVariants.{ShedEntries, GeneratorEntries, BranchEntries, ReferenceEntries, CapabilityEntries, ShedBounds, SegmentEntries, RowEntries}
 use Rattle.program_builder.specs.Builder.{kept}
-use Rattle.opf_assembly.specs.Assembly.{blank, Coefficient, triplets, a_entries, quad_triplets}
+use Rattle.opf_assembly.specs.Assembly.{blank, triplets, a_entries, quad_triplets}
 use Rattle.opf_program.specs.Walks.{written}
-use Rattle.opf_matrix.specs.Groups.{size_of, entries_of, first_groups, last_groups}
-use Rattle.opf_program.proofs.Triplets.{puts_then, written_same}
+use Rattle.opf_matrix.specs.Groups.{size_of, group_entries}
+use Rattle.opf_program.proofs.Triplets.{written_same}
 use Rattle.sequence.proofs.Sheets.{done}
 use Rattle.opf_layout.specs.declared.OpfColumn.TheVariants.{Pg}
 
@@ -36,34 +37,14 @@ size_few h SegmentEntries = omega (arith, h.generators)
 size_few h RowEntries = omega (arith, h.rows)
 
 module _ (x : OpfLayout) (c : Counts) (w : List ℕ) (r : List Float) (ti : List ℕ) (tc : List Float) where
-  abbrev pub group : Group → List Coefficient
-  group g = each (size_of c g) (entries_of c w r ti tc g)
+  a_is : each 8 (group_entries c w r ti tc) ≡ a_entries c w r ti tc
+  unfolding each a_entries
+  a_is = simp append_assoc
 
-  -- four groups, one after the other
-  pub four_groups : {l : ℕ} {S₀ S₁ S₂ S₃ S₄ : Sheets} (a b d e : List Coefficient)
-      → Puts l (written x c r a) S₀ S₁ → Puts l (written x c r b) S₁ S₂ → Puts l (written x c r d) S₂ S₃ → Puts l (written x c r e) S₃ S₄
-      → Puts l (written x c r (a ++ (b ++ (d ++ e)))) S₀ S₄
-  four_groups a b d e p q s t =
-      puts_then (row_in x) (column_in x) (reading c r) blank a (b ++ (d ++ e)) p
-      (puts_then (row_in x) (column_in x) (reading c r) blank b (d ++ e) q
-      (puts_then (row_in x) (column_in x) (reading c r) blank d e s t))
-
-  a_is : first_groups c w r ti tc ++ last_groups c w r ti tc ≡ a_entries c w r ti tc
-  unfolding a_entries
-  a_is =
-      let a = group ShedEntries in
-      let b = group GeneratorEntries in
-      let d = group BranchEntries in
-      let e = group ReferenceEntries in
-      let z = last_groups c w r ti tc in
-      append_assoc a (b ++ (d ++ e)) z
-      ∙ ap (λ (k : List Coefficient). a ++ k) (append_assoc b (d ++ e) z ∙ ap (λ (k : List Coefficient). b ++ k) (append_assoc d e z))
-
-  pub a_done : {l : ℕ} {S₀ S₁ S₂ : Sheets} (a : Active) → Placed c a x → Puts l (written x c r (first_groups c w r ti tc)) S₀ S₁ → Puts l (written x c r (last_groups c w r ti tc)) S₁ S₂
-      → Puts l (triplets c a (reading c r) blank (a_entries c w r ti tc)) S₀ S₂
-  a_done a h p q =
-      let m = puts_then (row_in x) (column_in x) (reading c r) blank (first_groups c w r ti tc) (last_groups c w r ti tc) p q in
-      rw (a_is, written_same {row_at = row_in x} {rowIs = row_start c a} {column_at = column_in x} {columnIs = column_start c a} (reading c r) blank (rows_of c a x h) (columns_of c a x h) (a_entries c w r ti tc)) at m
+  pub a_done : {l : ℕ} {S₀ S₁ : Sheets} (a : Active) → Placed c a x → Puts l (written x c r (each 8 (group_entries c w r ti tc))) S₀ S₁
+      → Puts l (triplets c a (reading c r) blank (a_entries c w r ti tc)) S₀ S₁
+  a_done a h p =
+      rw (a_is, written_same {row_at = row_in x} {rowIs = row_start c a} {column_at = column_in x} {columnIs = column_start c a} (reading c r) blank (rows_of c a x h) (columns_of c a x h) (a_entries c w r ti tc)) at p
 
 -- generator j's entry of P, where the columns of the dispatch start
 abbrev pub curvature : ℕ → Counts → List Float → ℕ → List Triplet

@@ -1,6 +1,6 @@
 -- The groups of A's entries and the counts that their loops carry.
--- Main definitions: `entries_of`, `ranks_at`, `first_groups`, `last_groups`. Assumes nothing.
-use Rattle.std.specs.Prelude.{ℕ, List, ◌++◌, Float}
+-- Main definitions: `groups`, `entries_of`, `ranks_at`, `group_entries`. Assumes nothing.
+use Rattle.std.specs.Prelude.{ℕ, List, [], ◌∷◌, get_or, Float}
 use Rattle.sequence.specs.Lists.{each}
 use Rattle.network.specs.declared.Counts.{Counts}
 use Rattle.network.specs.declared.Part.TheVariants.{GeneratorFlags, ThermalFlags, AngleFlags}
@@ -13,8 +13,11 @@ use Rattle.opf_matrix.specs.declared.Group.{Group}
 use Rattle.opf_matrix.specs.declared.Group.TheVariants.{ShedEntries, GeneratorEntries, BranchEntries, ReferenceEntries, CapabilityEntries, ShedBounds, SegmentEntries, RowEntries}
 use Rattle.opf_assembly.specs.Assembly.{Coefficient, shed_entry, generator_entry, branch_entries, reference_entry, capability_entries, shed_bounds, segment_entries, linear_entries}
 
--- the groups' sizes, in the order of `a_entries`
+-- the groups, in the order of `a_entries`
+abbrev pub groups : List Group
+groups = ShedEntries ∷ GeneratorEntries ∷ BranchEntries ∷ ReferenceEntries ∷ CapabilityEntries ∷ ShedBounds ∷ SegmentEntries ∷ RowEntries ∷ []
 
+-- how many turns each has
 abbrev pub size_of : Counts → Group → ℕ
 size_of c ShedEntries = c.buses
 size_of c GeneratorEntries = c.generators
@@ -51,14 +54,6 @@ module _ (c : Counts) (w : List ℕ) (r : List Float) where
   ranks_at SegmentEntries i = ranks (piece_rank c w i) (segment_start c w i) 0
   ranks_at RowEntries i = ranks (equality_rank c w r i) (inequality_rank c w r i) (term_start c w i)
 
-  module _ (ti : List ℕ) (tc : List Float) where
-    abbrev pub first_groups : List Coefficient
-    first_groups =
-        each c.buses (shed_entry c w r)
-        ++ (each c.generators (generator_entry c w r) ++ (each c.branches (branch_entries c w r) ++ each c.references (reference_entry c w r)))
-
-    abbrev pub last_groups : List Coefficient
-    last_groups =
-        each c.generators (capability_entries c w r)
-        ++ (each c.buses (shed_bounds c w r)
-        ++ (each c.generators (segment_entries c w r) ++ each c.rows (λ q. linear_entries c w r ti tc (row_limits c w r q) q)))
+  -- what group k puts
+  abbrev pub group_entries : List ℕ → List Float → ℕ → List Coefficient
+  group_entries ti tc k = each (size_of c (get_or groups k ShedEntries)) (entries_of ti tc (get_or groups k ShedEntries))

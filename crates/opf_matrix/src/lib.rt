@@ -10,7 +10,7 @@ ghost use Rattle.opf_layout.specs.declared.Active.{Active};
 ghost use Rattle.opf_layout.specs.Layout.{active_of, Narrow, Placed};
 ghost use Rattle.opf_assembly.specs.Assembly.{blank, quad_triplets, a_triplets};
 ghost use Rattle.opf_program.specs.Walks.{Lent, written};
-ghost use Rattle.opf_matrix.specs.Groups.{size_of, entries_of, ranks_at, first_groups, last_groups};
+ghost use Rattle.opf_matrix.specs.Groups.{size_of, entries_of, ranks_at};
 
 use model::rows::row_limits;
 use network::check::row_terms;
@@ -190,12 +190,12 @@ fn advance(wiring: &[u32], readings: &[f64], c: Counts, g: Group, i: usize, p: R
     ensures { result ≡ ranks_at c wiring.now readings.now g (i + 1) }
 {
     match g {
-        Group::ShedEntries => Ranks {
+        Group::ShedEntries | Group::ShedBounds => Ranks {
             first: p.first + one_if(sheds_at(wiring, readings, c, i)),
             second: 0,
             third: 0,
         },
-        Group::GeneratorEntries => Ranks {
+        Group::GeneratorEntries | Group::ReferenceEntries => Ranks {
             first: 0,
             second: 0,
             third: 0,
@@ -205,18 +205,8 @@ fn advance(wiring: &[u32], readings: &[f64], c: Counts, g: Group, i: usize, p: R
             second: p.second + one_if(word(wiring, c, Part::AngleFlags, i) != 0),
             third: 0,
         },
-        Group::ReferenceEntries => Ranks {
-            first: 0,
-            second: 0,
-            third: 0,
-        },
         Group::CapabilityEntries => Ranks {
             first: p.first + one_if(word(wiring, c, Part::GeneratorFlags, i) != 0),
-            second: 0,
-            third: 0,
-        },
-        Group::ShedBounds => Ranks {
-            first: p.first + one_if(sheds_at(wiring, readings, c, i)),
             second: 0,
             third: 0,
         },
@@ -244,13 +234,10 @@ fn group_size(c: Counts, g: Group) -> usize
     ensures { result ≡ size_of c g }
 {
     match g {
-        Group::ShedEntries => c.buses,
-        Group::GeneratorEntries => c.generators,
+        Group::ShedEntries | Group::ShedBounds => c.buses,
+        Group::GeneratorEntries | Group::CapabilityEntries | Group::SegmentEntries => c.generators,
         Group::BranchEntries => c.branches,
         Group::ReferenceEntries => c.references,
-        Group::CapabilityEntries => c.generators,
-        Group::ShedBounds => c.buses,
-        Group::SegmentEntries => c.generators,
         Group::RowEntries => c.rows,
     }
 }
@@ -306,163 +293,17 @@ fn put_group(
     k
 }
 
-// The first half of A's groups.
-fn put_first(
-    wiring: &[u32],
-    readings: &[f64],
-    term_index: &[u32],
-    term_coefficient: &[f64],
-    c: Counts,
-    lay: OpfLayout,
-    rows: &mut [u32],
-    cols: &mut [u32],
-    values: &mut [f64],
-    limit: usize,
-    at: usize,
-) -> usize
-    requires lent { Lent c wiring.now readings.now lay }
-    requires termed { Termed c wiring.now term_index.now term_coefficient.now }
-    requires at_bound { at < 0x100_0000 }
-    requires room { Room limit (held rows cols values at) }
-    ensures puts { Puts limit (written lay c readings.now (first_groups c wiring.now readings.now term_index.now term_coefficient.now)) (held rows.entry cols.entry values.entry at) (held rows.exit cols.exit values.exit result) }
-    ensures most { result ≤ at + 0x40_0000 }
-{
-    let k = put_group(
-        wiring,
-        readings,
-        term_index,
-        term_coefficient,
-        c,
-        lay,
-        Group::ShedEntries,
-        rows,
-        cols,
-        values,
-        limit,
-        at,
-    );
-    let k = put_group(
-        wiring,
-        readings,
-        term_index,
-        term_coefficient,
-        c,
-        lay,
-        Group::GeneratorEntries,
-        rows,
-        cols,
-        values,
-        limit,
-        k,
-    );
-    let k = put_group(
-        wiring,
-        readings,
-        term_index,
-        term_coefficient,
-        c,
-        lay,
-        Group::BranchEntries,
-        rows,
-        cols,
-        values,
-        limit,
-        k,
-    );
-    put_group(
-        wiring,
-        readings,
-        term_index,
-        term_coefficient,
-        c,
-        lay,
-        Group::ReferenceEntries,
-        rows,
-        cols,
-        values,
-        limit,
-        k,
-    )
-}
-
-// The other half.
-fn put_last(
-    wiring: &[u32],
-    readings: &[f64],
-    term_index: &[u32],
-    term_coefficient: &[f64],
-    c: Counts,
-    lay: OpfLayout,
-    rows: &mut [u32],
-    cols: &mut [u32],
-    values: &mut [f64],
-    limit: usize,
-    at: usize,
-) -> usize
-    requires lent { Lent c wiring.now readings.now lay }
-    requires termed { Termed c wiring.now term_index.now term_coefficient.now }
-    requires at_bound { at < 0x100_0000 }
-    requires room { Room limit (held rows cols values at) }
-    ensures puts { Puts limit (written lay c readings.now (last_groups c wiring.now readings.now term_index.now term_coefficient.now)) (held rows.entry cols.entry values.entry at) (held rows.exit cols.exit values.exit result) }
-    ensures most { result ≤ at + 0x40_0000 }
-{
-    let k = put_group(
-        wiring,
-        readings,
-        term_index,
-        term_coefficient,
-        c,
-        lay,
-        Group::CapabilityEntries,
-        rows,
-        cols,
-        values,
-        limit,
-        at,
-    );
-    let k = put_group(
-        wiring,
-        readings,
-        term_index,
-        term_coefficient,
-        c,
-        lay,
-        Group::ShedBounds,
-        rows,
-        cols,
-        values,
-        limit,
-        k,
-    );
-    let k = put_group(
-        wiring,
-        readings,
-        term_index,
-        term_coefficient,
-        c,
-        lay,
-        Group::SegmentEntries,
-        rows,
-        cols,
-        values,
-        limit,
-        k,
-    );
-    put_group(
-        wiring,
-        readings,
-        term_index,
-        term_coefficient,
-        c,
-        lay,
-        Group::RowEntries,
-        rows,
-        cols,
-        values,
-        limit,
-        k,
-    )
-}
+// The groups, in the order of writing.
+const GROUPS: [Group; 8] = [
+    Group::ShedEntries,
+    Group::GeneratorEntries,
+    Group::BranchEntries,
+    Group::ReferenceEntries,
+    Group::CapabilityEntries,
+    Group::ShedBounds,
+    Group::SegmentEntries,
+    Group::RowEntries,
+];
 
 // A's triplets: zero values dropped, in the order written. No expression of A reads a solution.
 pub fn put_a(
@@ -485,32 +326,24 @@ pub fn put_a(
     ensures puts { Puts limit (a_triplets c wiring.now readings.now term_index.now term_coefficient.now) (held rows.entry cols.entry values.entry 0) (held rows.exit cols.exit values.exit result) }
     ensures most { result ≤ 0x80_0000 }
 {
-    let k = put_first(
-        wiring,
-        readings,
-        term_index,
-        term_coefficient,
-        c,
-        lay,
-        rows,
-        cols,
-        values,
-        limit,
-        0,
-    );
-    put_last(
-        wiring,
-        readings,
-        term_index,
-        term_coefficient,
-        c,
-        lay,
-        rows,
-        cols,
-        values,
-        limit,
-        k,
-    )
+    let mut k = 0;
+    for g in &GROUPS {
+        k = put_group(
+            wiring,
+            readings,
+            term_index,
+            term_coefficient,
+            c,
+            lay,
+            *g,
+            rows,
+            cols,
+            values,
+            limit,
+            k,
+        );
+    }
+    k
 }
 
 // P's triplets: zero values dropped.

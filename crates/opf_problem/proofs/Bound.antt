@@ -10,9 +10,10 @@ use Rattle.float64.specs.Values.{whole}
 use lib.Dec.{ltb}
 use lib.ListN.{length, length-append}
 use borrow.Author.Tests.{le-ltb}
-use Rattle.sequence.specs.declared.Item.{Item}
+use Rattle.std.specs.Prelude.{Option, Some, None as Without}
+use Rattle.sequence.specs.declared.Triplet.{Triplet}
 use Rattle.sequence.specs.Lists.{before, each, when}
-use Rattle.sequence.specs.Sheets.{triplet, emit}
+use Rattle.sequence.specs.Sheets.{emit}
 use Rattle.sequence.proofs.Lists.{before_bound, each_long}
 use Rattle.network.specs.declared.Counts.{Counts}
 use Rattle.network.specs.declared.Field.{Field}
@@ -40,9 +41,10 @@ unfolding when
 when_le true l = omega arith
 when_le false l = omega arith
 
-emit_le : (t : Item) → length (emit t) ≤ 1
+emit_le : (t : Option Triplet) → length (emit t) ≤ 1
 unfolding emit
-emit_le t = when_le t.keep (triplet t.row t.col t.value ∷ [])
+emit_le (Some t) = omega arith
+emit_le Without = omega arith
 
 -- no more triplets than entries
 triplets_le : (row_at : OpfRow → ℕ) (column_at : OpfColumn → ℕ) (R : Field → ℕ → Float) (S : Entry → ℕ → Float) (xs : List Coefficient) → length (triplets_by row_at column_at R S xs) ≤ length xs

@@ -1,14 +1,17 @@
 -- `assemble_opf` as a call: 01's number, A's and P's counts, and every lent word afterwards.
 -- Main definitions: `parts_of`, `assemble_call`. Assumes nothing.
-use Rattle.std.specs.Prelude.{ℕ, Bool, true, cond, ◌||◌, List, [], ◌∷◌, ◌++◌, length, eqb, Float}
+use Rattle.std.specs.Prelude.{ℕ, Bool, true, cond, ◌||◌, List, [], ◌∷◌, ◌++◌, length, eqb, Float, Result, Ok, Err}
 use Rattle.sequence.specs.Lists.{front}
-use Rattle.sequence.specs.Answers.{test, first_of, short}
-use Rattle.sequence.specs.Sheets.{Triplet, rows_of, cols_of, values_of, short_list}
+use Rattle.sequence.specs.Answers.{test, first_of, short, number_of}
+use Rattle.sequence.specs.declared.Refusal.{Refusal}
+use Rattle.sequence.specs.declared.Triplet.{Triplet}
+use Rattle.sequence.specs.Sheets.{rows_of, cols_of, values_of, short_list}
 use Rattle.network.specs.Numbers.{Network, network_tests}
 use Rattle.network.specs.declared.Counts.{Counts}
 use Rattle.model.specs.Calls.{counted}
 use Rattle.opf_layout.specs.Layout.{active_of, cones}
 use Rattle.opf_assembly.specs.Assembly.{p_triplets, a_triplets, q_sheet, b_sheet}
+use Rattle.opf_problem.specs.declared.Written.{Written}
 
 -- what is assembled: P's list, A's list, q, b and the cones' sizes
 pub record Parts : Type 0 where
@@ -69,6 +72,15 @@ pub record Assembled : Type 0 where
 
 abbrev pub assembled : ℕ → ℕ → ℕ → Program → Assembled
 assembled n k l s = record { number = n; a_count = k; p_count = l; left = s }
+
+-- how many triplets were written: none where the call refuses
+abbrev pub counts_of : Result Written Refusal → Written
+counts_of (Ok n) = n
+counts_of (Err e) = record { a = 0; p = 0 }
+
+-- number, counts and sheets of a call that hands this back
+abbrev pub assembled_by : Result Written Refusal → Program → Assembled
+assembled_by r s = assembled (number_of r) (counts_of r).a (counts_of r).p s
 
 -- on 0 every result is written, and the counts are A's and P's; else the counts are 0 and nothing is
 unfoldable pub assembles : ℕ → Parts → Program → Assembled

@@ -5,26 +5,23 @@ ghost use Rattle.std.specs.Prelude.{◌≡◌, ◌≤◌, length, ltb};
 ghost use Rattle.sequence.specs.Lists.{front};
 ghost use Rattle.sequence.specs.Sheets.{laid, lays, room};
 ghost use Rattle.network.specs.Layout.{Few};
-ghost use Rattle.network.specs.Numbers.{lent};
+ghost use Rattle.network.specs.Sites.{network_in};
 ghost use Rattle.opf_layout.specs.Layout.{active_of, cones};
 ghost use Rattle.opf_assembly.specs.Assembly.{p_triplets, a_triplets, q_sheet, b_sheet};
-ghost use Rattle.opf_problem.specs.Calls.{program, assembled, assembles, parts_at, assemble_call};
+ghost use Rattle.opf_problem.specs.Calls.{program, assembled, assembled_by, assembles, parts_at, assemble_call};
 ghost use Rattle.opf_problem.specs.Walks.{Laid, any_short, most_a};
 
-use network::Counts;
-use network::check::network_number_with;
-use network::layout::counts;
+use network::{Counts, Lent};
 use opf_layout::{OpfLayout, active_of};
 use opf_matrix::{put_a, put_p};
 use opf_sides::{cone_count, put_b, put_cones, put_q};
-use sequence::room;
+use sequence::{Refusal, room};
 
-// 0, or the number of the refusal, and how many triplets of A and of P were written.
-#[derive(Clone, Copy)]
-pub struct Assembly {
-    pub number: u32,
-    pub a_count: usize,
-    pub p_count: usize,
+// How many triplets of A and of P were written.
+#[derive(Clone, Copy, Debug, PartialEq, Eq)]
+pub struct Written {
+    pub a: usize,
+    pub p: usize,
 }
 
 // How many doubles or triplets each lent sheet holds.
@@ -265,11 +262,11 @@ fn lay_program(
     q: &mut [f64],
     b: &mut [f64],
     sizes: &mut [u32],
-) -> Assembly
+) -> Written
     requires laid { Laid c wiring.now readings.now term_index.now term_coefficient.now lay }
     requires readings_len_bound { (length (p_triplets c wiring.now readings.now) ≤ room p_rows.old p_cols.old p_values.old) × (length (a_triplets c wiring.now readings.now term_index.now term_coefficient.now) ≤ room a_rows.old a_cols.old a_values.old) }
     requires readings_in_bounds { (length (q_sheet c wiring.now readings.now) ≤ length q.old) × (length (b_sheet c wiring.now readings.now) ≤ length b.old) × (length (cones c (active_of c wiring.now readings.now)) ≤ length sizes.old) }
-    ensures { assembled result.number result.a_count result.p_count (program p_rows.new p_cols.new p_values.new a_rows.new a_cols.new a_values.new q.new b.new sizes.new) ≡ assembles 0 (parts_at c wiring.now readings.now term_index.now term_coefficient.now) (program p_rows.old p_cols.old p_values.old a_rows.old a_cols.old a_values.old q.old b.old sizes.old) }
+    ensures { assembled 0 result.a result.p (program p_rows.new p_cols.new p_values.new a_rows.new a_cols.new a_values.new q.new b.new sizes.new) ≡ assembles 0 (parts_at c wiring.now readings.now term_index.now term_coefficient.now) (program p_rows.old p_cols.old p_values.old a_rows.old a_cols.old a_values.old q.old b.old sizes.old) }
 {
     let p = lay_p(
         wiring,
@@ -304,19 +301,12 @@ fn lay_program(
         b,
         sizes,
     );
-    Assembly {
-        number: 0,
-        a_count: a,
-        p_count: p,
-    }
+    Written { a, p }
 }
 
 // P's and A's triplets, q, b and the cones' sizes of a network; nothing is written where one does not fit.
 pub fn assemble_opf(
-    wiring: &[u32],
-    readings: &[f64],
-    term_index: &[u32],
-    term_coefficient: &[f64],
+    lent: Lent<'_>,
     p_rows: &mut [u32],
     p_cols: &mut [u32],
     p_values: &mut [f64],
@@ -326,19 +316,12 @@ pub fn assemble_opf(
     q: &mut [f64],
     b: &mut [f64],
     sizes: &mut [u32],
-) -> Assembly
-    ensures { assembled result.number result.a_count result.p_count (program p_rows.new p_cols.new p_values.new a_rows.new a_cols.new a_values.new q.new b.new sizes.new) ≡ assemble_call (lent wiring.entry readings.entry term_index.entry term_coefficient.entry) (program p_rows.old p_cols.old p_values.old a_rows.old a_cols.old a_values.old q.old b.old sizes.old) }
+) -> Result<Written, Refusal>
+    ensures { assembled_by result (program p_rows.new p_cols.new p_values.new a_rows.new a_cols.new a_values.new q.new b.new sizes.new) ≡ assemble_call (network_in lent.entry) (program p_rows.old p_cols.old p_values.old a_rows.old a_cols.old a_values.old q.old b.old sizes.old) }
 {
-    let number = network_number_with(wiring, readings, term_index, term_coefficient, true, true);
-    if number != 0 {
-        return Assembly {
-            number,
-            a_count: 0,
-            p_count: 0,
-        };
-    }
-    let c = counts(wiring);
-    let lay = OpfLayout::dc(c, active_of(wiring, readings, c));
+    let site = lent.accept()?;
+    let c = site.counts;
+    let lay = OpfLayout::dc(c, active_of(site.wiring, site.readings, c));
     let rooms = Rooms {
         p: room(p_rows, p_cols, p_values),
         a: room(a_rows, a_cols, a_values),
@@ -347,25 +330,21 @@ pub fn assemble_opf(
         cones: sizes.len(),
     };
     if is_short(
-        wiring,
-        readings,
-        term_index,
-        term_coefficient,
+        site.wiring,
+        site.readings,
+        site.term_index,
+        site.term_coefficient,
         c,
         lay,
         rooms,
     ) {
-        return Assembly {
-            number: 7,
-            a_count: 0,
-            p_count: 0,
-        };
+        return Err(Refusal::Short);
     }
-    lay_program(
-        wiring,
-        readings,
-        term_index,
-        term_coefficient,
+    Ok(lay_program(
+        site.wiring,
+        site.readings,
+        site.term_index,
+        site.term_coefficient,
         c,
         lay,
         p_rows,
@@ -377,5 +356,5 @@ pub fn assemble_opf(
         q,
         b,
         sizes,
-    )
+    ))
 }

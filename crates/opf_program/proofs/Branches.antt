@@ -3,12 +3,13 @@
 use mathlib.Core.Path.{◌≡◌, refl}
 use mathlib.Core.Bool.{Bool, true, not}
 use mathlib.Core.List.{List, [], ◌∷◌, ◌++◌}
-use Prim.Native.Nat.{ℕ, ◌+◌}
+use Prim.Native.Nat.{ℕ}
 use lib.Dec.{eqb}
 use lib.Ieee.{Float, neg}
 use Rattle.float64.specs.Values.{one}
 use Rattle.sequence.specs.Lists.{when}
-use Rattle.sequence.specs.Sheets.{Triplet, emit, Sheets, Puts}
+use Rattle.sequence.specs.declared.Triplet.{Triplet}
+use Rattle.sequence.specs.Sheets.{emit, Sheets, Puts}
 use Rattle.network.specs.declared.Counts.{Counts}
 use Rattle.network.specs.declared.Part.TheVariants.{BrFrom, BrTo, ThermalFlags, AngleFlags}
 use Rattle.network.specs.declared.Field.TheVariants.{Sw}

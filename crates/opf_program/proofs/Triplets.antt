@@ -6,7 +6,8 @@ use mathlib.Core.List.{List, [], ◌∷◌, ◌++◌, append-nil, append_assoc}
 use Prim.Native.Nat.{ℕ, zero, suc, ◌+◌, ◌≤◌}
 use lib.Ieee.{Float}
 use Rattle.sequence.specs.Lists.{each, when}
-use Rattle.sequence.specs.Sheets.{Triplet, emit, Sheets, Puts}
+use Rattle.sequence.specs.declared.Triplet.{Triplet}
+use Rattle.sequence.specs.Sheets.{emit, Sheets, Puts}
 use Rattle.sequence.proofs.Sheets.{none, begin, more, done, then}
 use Rattle.network.specs.declared.Field.{Field}
 use Rattle.solution.specs.declared.Entry.{Entry}

@@ -1,10 +1,10 @@
 -- Which slices are lent to what puts the program, and an entry of A by value.
 -- Main definitions: `Lent`, `written`, `cell`, `cell_item`. Assumes nothing.
-use Rattle.std.specs.Prelude.{ℕ, ◌+◌, ◌≤◌, Bool, not, ◌&&◌, List, Float}
+use Rattle.std.specs.Prelude.{ℕ, ◌+◌, ◌≤◌, Bool, not, ◌&&◌, List, Float, Option}
 use Rattle.std.specs.Float.Ieee.{eq}
 use Rattle.float64.specs.Values.{nought}
-use Rattle.sequence.specs.declared.Item.{Item}
-use Rattle.sequence.specs.Sheets.{Triplet, item}
+use Rattle.sequence.specs.declared.Triplet.{Triplet}
+use Rattle.sequence.specs.Sheets.{item}
 use Rattle.network.specs.declared.Counts.{Counts}
 use Rattle.network.specs.declared.Field.{Field}
 use Rattle.network.specs.Layout.{reading, ReadingsLaid}
@@ -36,8 +36,8 @@ cell a i k j v = record { row = a; i = i; col = k; j = j; value = v }
 abbrev pub cell_of : (Field → ℕ → Float) → (Entry → ℕ → Float) → Coefficient → Cell
 cell_of R S k = cell k.row.0 k.row.1 k.col.0 k.col.1 (eval R S k.what)
 
--- as an item, where it is meant at all
-abbrev pub cell_item : OpfLayout → Bool → Cell → Item
+-- as a triplet, where it is meant at all
+abbrev pub cell_item : OpfLayout → Bool → Cell → Option Triplet
 cell_item x on s = item (on && not (eq s.value nought)) (row_in x s.row + s.i) (column_in x s.col + s.j) s.value
 
 -- its indexes are far below 2^32

@@ -1,15 +1,19 @@
 -- A walk's word is the definition's where its running ranks are; a linear row's places lie among all of them.
--- Main results: `picked`, `picked_room`, `flag_met`, `lower`, `signed`; `equal_room`, `limit_room`, `equal_more`, `limit_more`. Assumes nothing.
-use mathlib.Core.Path.{◌≡◌, sym, ◌∙◌}
+-- Main results: `block_stored`, `picked`, `picked_room`, `flag_met`, `lower`, `signed`; `equal_room`, `limit_room`, `equal_more`, `limit_more`. Assumes nothing.
+use mathlib.Core.Path.{◌≡◌, refl, sym, ◌∙◌}
 use mathlib.Core.Bool.{Bool, true, cond, not}
-use mathlib.Core.List.{List}
-use Prim.Native.Nat.{ℕ, ◌+◌, ◌≤◌, ◌<◌}
+use mathlib.Core.List.{List, append_assoc}
+use Prim.Native.Nat.{ℕ, zero, suc, ◌+◌, ◌-◌, ◌≤◌, ◌<◌}
 use native.Mathlib.Omega.{arith}
 use lib.Dec.{eqb}
-use lib.ListN.{get_or}
+use lib.ListN.{length, get_or, take, drop, length-drop}
+use lib.Seq.{sets, sets-eq, take-suc}
+use borrow.Rule.Slice.PartMut.{put_mid, Post-is}
+use Rattle.std.proofs.lemmas.List.{get_or-drop}
 use lib.Ieee.{Float, nan, binary64, neg, sub}
 use Rattle.float64.specs.Values.{nought}
-use Rattle.sequence.proofs.Lists.{before_none, before_more, before_within}
+use Rattle.sequence.specs.Lists.{made}
+use Rattle.sequence.proofs.Lists.{before_none, before_more, before_within, made_length}
 use Rattle.network.specs.declared.Counts.{Counts}
 use Rattle.network.specs.declared.Field.TheVariants.{CShed}
 use Rattle.network.specs.declared.Part.{Part}
@@ -18,7 +22,24 @@ use Rattle.model.specs.declared.RowLimits.{RowLimits}
 use Rattle.model.specs.Rows.{row_limits}
 use Rattle.opf_layout.specs.Layout.{active_rank, flagged, sheds, equalities, inequalities, equality_rank, inequality_rank}
 use Rattle.opf_layout.proofs.Ranks.{rank_below}
-use Rattle.opf_readback.specs.Walks.{picked_at, lower_at, signed_of}
+use Rattle.opf_readback.specs.Walks.{block_at, picked_at, lower_at, signed_of}
+
+-- ---- a block that comes into a sheet as it is
+
+block_is : (x : List Float) (start count : ℕ) → start + count ≤ length x → take count (drop start x) ≡ made (block_at x start) count
+unfolding made
+block_is x start zero h = refl
+block_is x start (suc n) h =
+    take-suc (drop start x) n nan (rw length-drop (omega arith)) ∙ rw (block_is x start n (omega arith), get_or-drop)
+
+pub block_stored : (x out : List Float) (start count at : ℕ) {part : List Float} → start + count ≤ length x → at + count ≤ length out
+    → part ≡ take (start + count - start) (drop start x) → put_mid at (at + count - at) out part ≡ sets out at (made (block_at x start) count)
+block_stored x out start count at h g e =
+    let k : start + count - start ≡ count = omega arith in
+    let b = block_is x start count h in
+    rw (e, k, b, Post-is at (at + count) out (omega arith)) (sym (sets-eq (made (block_at x start) count) out at (rw made_length g) ∙ rw (made_length, append_assoc)))
+
+-- ---- words by rank
 
 pub picked : (on : ℕ → Bool) (x : List Float) (start i : ℕ) {k : ℕ} {met : Bool} {v : Float}
     → v ≡ cond met (get_or x (start + k) nan) nought → met ≡ on i → k ≡ active_rank on i → v ≡ picked_at on x start i

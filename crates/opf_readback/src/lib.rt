@@ -33,9 +33,7 @@ fn put_block(from: &[f64], start: usize, count: usize, out: &mut [f64], at: usiz
     requires count_in_bounds_2 { (at + count ≤ length out.old) × (at < 0x1_0000) }
     ensures { out.new ≡ sets out.old at (made (block_at from.now start) count) }
 {
-    for i in 0..count {
-        out[at + i] = from[start + i];
-    }
+    out[at..at + count].copy_from_slice(&from[start..start + count]);
 }
 
 // A block with each sign turned.
@@ -231,7 +229,7 @@ fn cost_sum(wiring: &[u32], readings: &[f64], c: Counts, x: &[f64], start: usize
     let to = c.generators;
     let mut sum = 0.0;
     for j in 0..to {
-        sum = sum + generator_cost_at(wiring, readings, c, j, x[start + j]);
+        sum += generator_cost_at(wiring, readings, c, j, x[start + j]);
     }
     sum
 }
@@ -250,13 +248,11 @@ fn objective_of(
     requires generators_in_bounds { (start + c.generators ≤ length x.now) × (start < 0x1_0000) }
     ensures { result ≡ objective_of c wiring.now readings.now x.now start raw }
 {
-    if wiring[8] == 0 {
-        return 0.0;
+    match wiring[8] {
+        0 => 0.0,
+        1 => cost_sum(wiring, readings, c, x, start),
+        _ => raw,
     }
-    if wiring[8] == 1 {
-        return cost_sum(wiring, readings, c, x, start);
-    }
-    raw
 }
 
 // An entry's words from a place on.
@@ -363,16 +359,13 @@ fn put_entry(
             at,
         ),
         Entry::LinearValue => {
-            let pg = lay.pg;
-            let flow = lay.flow;
-            let shed = lay.shed;
             put_values(
                 wiring,
                 c,
                 term_index,
                 term_coefficient,
-                &x[flow..shed],
-                &x[pg..flow],
+                &x[lay.flow..lay.shed],
+                &x[lay.pg..lay.flow],
                 out,
                 at,
             );
@@ -405,13 +398,6 @@ const ENTRIES: [Entry; 18] = [
     Entry::Objective,
 ];
 
-fn entry_at(k: usize) -> Entry
-    requires { k < 18 }
-    ensures { result ≡ get_or entries k Va }
-{
-    ENTRIES[k]
-}
-
 // The whole sheet into the front of another.
 pub fn read_into(
     wiring: &[u32],
@@ -437,8 +423,7 @@ pub fn read_into(
     ensures out_len_unchanged { length out.new ≡ length out.old }
 {
     let mut at = 0;
-    for k in 0..18usize {
-        let e = entry_at(k);
+    for e in &ENTRIES {
         put_entry(
             wiring,
             readings,
@@ -450,10 +435,10 @@ pub fn read_into(
             c,
             p,
             lay,
-            e,
+            *e,
             out,
             at,
         );
-        at += entry_size(c, p, e);
+        at += entry_size(c, p, *e);
     }
 }

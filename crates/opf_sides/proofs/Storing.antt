@@ -6,6 +6,8 @@ use mathlib.Core.List.{List, [], ◌∷◌, ◌++◌}
 use Prim.Native.Nat.{ℕ, zero, suc, ◌+◌, ◌≤◌, ◌<◌}
 use native.Mathlib.Omega.{arith}
 use lib.ListN.{length, get_or, set, length-set, length-append}
+use lib.Ieee.{Float}
+use Rattle.std.specs.Prelude.{Option, Some}
 use lib.Seq.{get_or-set_same, set-set}
 use Rattle.sequence.specs.Lists.{before, each, when, made, front}
 use Rattle.sequence.proofs.Lists.{each_more, before_within, each_long}
@@ -14,7 +16,7 @@ use Rattle.network.specs.declared.Counts.{Counts}
 use Rattle.opf_layout.specs.declared.OpfColumn.{OpfColumn}
 use Rattle.opf_layout.specs.declared.OpfRow.{OpfRow}
 use Rattle.opf_assembly.specs.Assembly.{column_elements, row_elements}
-use Rattle.opf_sides.specs.Walks.{Stores}
+use Rattle.opf_sides.specs.Walks.{Stores, added_word}
 
 module _ {A : Type 0} where
   pub nothing : (at : ℕ) (old : List A) → Stores [] at old old at
@@ -48,6 +50,9 @@ module _ {A : Type 0} where
   pub when_off : {on : Bool} (l : List A) {at : ℕ} {x : List A} → on ≡ false → Stores (when on l) at x x at
   unfolding when
   when_off l {at} {x} e = rw e (nothing at x)
+
+  pub one_side : (on : Bool) {l : List A} {v u : A} → l ≡ when on (v ∷ []) → v ≡ u → l ≡ when on (u ∷ [])
+  one_side on h e = rw e at h
 
   pub when_room : {on : Bool} (v : A) {at room : ℕ} → on ≡ true → at + length (when on (v ∷ [])) ≤ room → at < room
   unfolding when
@@ -85,6 +90,10 @@ below c i e h = rw e at h
 
 pub column_below : (c : Counts) (i : ℕ) {b g : OpfColumn} → b ≡ g → i < column_elements c b → i < column_elements c g
 column_below c i e h = rw e at h
+
+-- an element's word of q has room
+pub word_room : {added : Option Float} {v : Float} {at room : ℕ} → added ≡ Some v → at + length (added_word added) ≤ room → at < room
+word_room e h = let g = rw e at h in omega (arith, g)
 
 -- a list that a loop makes word by word
 pub made_turns : {A : Type 0} (f : ℕ → A) (n : ℕ) → made f n ≡ each n (λ i. f i ∷ [])

@@ -1,14 +1,12 @@
 -- Words that are stored after each other, what one element has in b and in q by value, and the cones by the layout.
 -- Main definitions: `Stores`, `listed`, `added_word`, `cones_in`. Assumes nothing.
-use Rattle.std.specs.Prelude.{ℕ, ◌+◌, ◌<◌, ◌≡◌, List, [], ◌∷◌, length, Float}
+use Rattle.std.specs.Prelude.{ℕ, ◌+◌, ◌<◌, ◌≡◌, List, [], ◌∷◌, length, Float, Option, Some, None}
 use Rattle.std.proofs.lemmas.List.Edits.{sets}
 use Rattle.std.specs.Float.{binary64}
 use Rattle.std.specs.Float.Ieee.{add}
 use Rattle.float64.specs.Values.{nought}
-use Rattle.sequence.specs.Lists.{when}
 use Rattle.opf_layout.specs.declared.OpfLayout.{OpfLayout}
 use Rattle.opf_layout.specs.Layout.{also_if}
-use Rattle.opf_sides.specs.declared.Linear.{Linear}
 use Rattle.opf_sides.specs.declared.Sides.{Sides}
 use Rattle.opf_sides.specs.declared.Sides.TheVariants.{Nothing, One, Two}
 
@@ -23,8 +21,10 @@ listed Nothing = []
 listed (One v) = v ∷ []
 listed (Two v u) = v ∷ u ∷ []
 
-abbrev pub added_word : Linear → List Float
-added_word s = when s.on (add binary64 nought s.value ∷ [])
+-- the word of an element that has a column, which begins at 0
+abbrev pub added_word : Option Float → List Float
+added_word (Some v) = add binary64 nought v ∷ []
+added_word None = []
 
 -- the cones' sizes by the struct
 abbrev pub cones_in : OpfLayout → List ℕ

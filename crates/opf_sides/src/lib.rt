@@ -60,10 +60,9 @@ fn equal_side(readings: &[f64], c: Counts, limits: RowLimits) -> Sides
 {
     let base = reading(readings, c, Field::BaseMva, 0);
     match limits {
-        RowLimits::None => Sides::Nothing,
-        RowLimits::Upper(_) => Sides::Nothing,
-        RowLimits::Lower(_) => Sides::Nothing,
-        RowLimits::Both(_, _) => Sides::Nothing,
+        RowLimits::None | RowLimits::Upper(_) | RowLimits::Lower(_) | RowLimits::Both(_, _) => {
+            Sides::Nothing
+        }
         RowLimits::Equal(l) => Sides::One(1.0 * l / base),
     }
 }
@@ -75,11 +74,10 @@ fn limit_sides(readings: &[f64], c: Counts, limits: RowLimits) -> Sides
 {
     let base = reading(readings, c, Field::BaseMva, 0);
     match limits {
-        RowLimits::None => Sides::Nothing,
+        RowLimits::None | RowLimits::Equal(_) => Sides::Nothing,
         RowLimits::Upper(u) => Sides::One(1.0 * u / base),
         RowLimits::Lower(l) => Sides::One(-1.0 * l / base),
         RowLimits::Both(u, l) => Sides::Two(1.0 * u / base, -1.0 * l / base),
-        RowLimits::Equal(_) => Sides::Nothing,
     }
 }
 
@@ -94,14 +92,7 @@ fn sides_of(wiring: &[u32], readings: &[f64], c: Counts, b: OpfRow, i: usize) ->
         OpfRow::Balance => Sides::Nothing,
         OpfRow::FlowRow => Sides::One(flow_offset_at(readings, c, i)),
         OpfRow::Reference => Sides::One(0.0),
-        OpfRow::LineUb => flagged_side(
-            wiring,
-            c,
-            Part::ThermalFlags,
-            i,
-            reading(readings, c, Field::Fmax, i),
-        ),
-        OpfRow::LineLb => flagged_side(
+        OpfRow::LineUb | OpfRow::LineLb => flagged_side(
             wiring,
             c,
             Part::ThermalFlags,
@@ -168,20 +159,13 @@ fn row_elements(c: Counts, b: OpfRow) -> usize
     ensures { result ≡ row_elements c b }
 {
     match b {
-        OpfRow::Balance => c.buses,
-        OpfRow::FlowRow => c.branches,
+        OpfRow::Balance | OpfRow::ShedUb | OpfRow::ShedLb => c.buses,
+        OpfRow::FlowRow | OpfRow::LineUb | OpfRow::LineLb | OpfRow::PhaseUb | OpfRow::PhaseLb =>
+            c.branches,
         OpfRow::Reference => c.references,
-        OpfRow::LineUb => c.branches,
-        OpfRow::LineLb => c.branches,
-        OpfRow::GenUb => c.generators,
-        OpfRow::GenLb => c.generators,
-        OpfRow::ShedUb => c.buses,
-        OpfRow::ShedLb => c.buses,
-        OpfRow::PhaseUb => c.branches,
-        OpfRow::PhaseLb => c.branches,
+        OpfRow::GenUb | OpfRow::GenLb => c.generators,
         OpfRow::Segment => c.segments,
-        OpfRow::LinearEqual => c.rows,
-        OpfRow::LinearLimit => c.rows,
+        OpfRow::LinearEqual | OpfRow::LinearLimit => c.rows,
     }
 }
 
@@ -207,9 +191,8 @@ fn put_rows(
     k
 }
 
-// The blocks of rows, in the layout's order.
-const ROWS: [OpfRow; 14] = [
-    OpfRow::Balance,
+// The blocks of rows after the balances, in the layout's order.
+const ROWS: [OpfRow; 13] = [
     OpfRow::FlowRow,
     OpfRow::Reference,
     OpfRow::LineUb,
@@ -225,13 +208,6 @@ const ROWS: [OpfRow; 14] = [
     OpfRow::LinearLimit,
 ];
 
-fn row_at(k: usize) -> OpfRow
-    requires { k < 14 }
-    ensures { result ≡ get_or rows k Balance }
-{
-    ROWS[k]
-}
-
 // b, row by row: the balances' withdrawals are summed over the branches first.
 pub fn put_b(wiring: &[u32], readings: &[f64], c: Counts, b: &mut [f64])
     requires wired { Wired c wiring.now }
@@ -241,60 +217,39 @@ pub fn put_b(wiring: &[u32], readings: &[f64], c: Counts, b: &mut [f64])
 {
     fixed_into(wiring, readings, c, b);
     let mut at = c.buses;
-    for k in 0..13usize {
-        at = put_rows(wiring, readings, c, row_at(1 + k), b, at);
+    for block in &ROWS {
+        at = put_rows(wiring, readings, c, *block, b, at);
     }
 }
 
-// What `lin` adds in an element's column, where it has one.
-#[derive(Clone, Copy)]
-pub struct Linear {
-    pub on: bool,
-    pub value: f64,
-}
-
-// cl at the generators, c_shed at the sheds, 1 at the epigraphs.
-fn linear_of(wiring: &[u32], readings: &[f64], c: Counts, k: OpfColumn, i: usize) -> Linear
+// What `lin` adds in an element's column, where it has one: cl at the generators, c_shed at the sheds, 1 at the epigraphs.
+fn linear_of(wiring: &[u32], readings: &[f64], c: Counts, k: OpfColumn, i: usize) -> Option<f64>
     requires wiring_laid { WiringLaid c wiring.now }
     requires readings_laid { ReadingsLaid c readings.now }
     requires i_bound { i < column_elements c k }
     ensures { added_word result ≡ linear c wiring.now readings.now k i }
 {
     match k {
-        OpfColumn::Va => Linear {
-            on: true,
-            value: 0.0,
-        },
-        OpfColumn::Pg => Linear {
-            on: true,
-            value: reading(readings, c, Field::Cl, i),
-        },
-        OpfColumn::Flow => Linear {
-            on: true,
-            value: 0.0,
-        },
-        OpfColumn::Shed => Linear {
-            on: sheds_at(wiring, readings, c, i),
-            value: reading(readings, c, Field::CShed, i),
-        },
-        OpfColumn::Cost => Linear {
-            on: word(wiring, c, Part::Segments, i) != 0,
-            value: 1.0,
-        },
+        OpfColumn::Va | OpfColumn::Flow => Some(0.0),
+        OpfColumn::Pg => Some(reading(readings, c, Field::Cl, i)),
+        OpfColumn::Shed => {
+            sheds_at(wiring, readings, c, i).then_some(reading(readings, c, Field::CShed, i))
+        }
+        OpfColumn::Cost => (word(wiring, c, Part::Segments, i) != 0).then_some(1.0),
     }
 }
 
 // An element's word, which begins at 0; the next column.
-fn put_linear(q: &mut [f64], at: usize, s: Linear) -> usize
-    requires { at + length (added_word s) ≤ length q.old }
-    ensures { Stores (added_word s) at q.old q.new result }
+fn put_linear(q: &mut [f64], at: usize, added: Option<f64>) -> usize
+    requires { at + length (added_word added) ≤ length q.old }
+    ensures { Stores (added_word added) at q.old q.new result }
 {
-    if s.on {
-        rhs(q, at, 0.0);
-        lin(q, at, s.value);
-        return at + 1;
-    }
-    at
+    let Some(value) = added else {
+        return at;
+    };
+    rhs(q, at, 0.0);
+    lin(q, at, value);
+    at + 1
 }
 
 // How many elements stand behind a block of columns.
@@ -302,11 +257,9 @@ fn column_elements(c: Counts, k: OpfColumn) -> usize
     ensures { result ≡ column_elements c k }
 {
     match k {
-        OpfColumn::Va => c.buses,
-        OpfColumn::Pg => c.generators,
+        OpfColumn::Va | OpfColumn::Shed => c.buses,
+        OpfColumn::Pg | OpfColumn::Cost => c.generators,
         OpfColumn::Flow => c.branches,
-        OpfColumn::Shed => c.buses,
-        OpfColumn::Cost => c.generators,
     }
 }
 
@@ -341,13 +294,6 @@ const COLUMNS: [OpfColumn; 5] = [
     OpfColumn::Cost,
 ];
 
-fn column_at(k: usize) -> OpfColumn
-    requires { k < 5 }
-    ensures { result ≡ get_or columns k Va }
-{
-    COLUMNS[k]
-}
-
 // q, column by column.
 pub fn put_q(wiring: &[u32], readings: &[f64], c: Counts, q: &mut [f64])
     requires wiring_laid { WiringLaid c wiring.now }
@@ -356,8 +302,8 @@ pub fn put_q(wiring: &[u32], readings: &[f64], c: Counts, q: &mut [f64])
     ensures { q.new ≡ front (q_sheet c wiring.now readings.now) q.old }
 {
     let mut at = 0;
-    for k in 0..5usize {
-        at = put_columns(wiring, readings, c, column_at(k), q, at);
+    for block in &COLUMNS {
+        at = put_columns(wiring, readings, c, *block, q, at);
     }
 }
 

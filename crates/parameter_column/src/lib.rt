@@ -23,7 +23,7 @@ use snapping::{
 use solution::{Entry, solved_at};
 
 // What is done with a word of a column.
-#[derive(Clone, Copy)]
+#[derive(Clone, Copy, Debug, PartialEq, Eq)]
 pub enum How {
     Put,
     Plus,
@@ -31,7 +31,7 @@ pub enum How {
 }
 
 // The parameters that are served.
-#[derive(Clone, Copy)]
+#[derive(Clone, Copy, Debug, PartialEq, Eq)]
 pub enum Served {
     Demand,
     CostQuadratic,
@@ -49,17 +49,11 @@ pub fn touch(c: Counts, idx: KktIdx, column: &mut [f64], b: Block, i: usize, how
     ensures touched { Touched (start_in idx) (touch b i how v ∷ []) column.old column.new }
     ensures fitted_2 { Fitted c idx column.new }
 {
-    let at = idx.start(b) + i;
+    let word = &mut column[idx.start(b) + i];
     match how {
-        How::Put => {
-            column[at] = v;
-        }
-        How::Plus => {
-            column[at] = column[at] + v;
-        }
-        How::Less => {
-            column[at] = column[at] - v;
-        }
+        How::Put => *word = v,
+        How::Plus => *word += v,
+        How::Less => *word -= v,
     }
 }
 

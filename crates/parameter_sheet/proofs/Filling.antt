@@ -1,20 +1,18 @@
 -- A column that is blank and then touched; an element of a parameter that is known.
--- Main results: `whole_front`, `known`, `column_is`, `fitted`; `column_fits`, `part_back`, `column_long`. Assumes nothing.
+-- Main results: `known`, `column_is`, `fitted`; `column_fits`, `part_back`, `column_long`. Assumes nothing.
 use mathlib.Core.Path.{◌≡◌, refl, sym, ap, ◌∙◌}
-use mathlib.Core.List.{List, [], ◌∷◌, append-nil, append_assoc}
+use mathlib.Core.List.{List, [], ◌∷◌, append_assoc}
 use Prim.Native.Nat.{ℕ, ◌+◌, ◌-◌, ◌*◌, ◌≤◌, ◌<◌}
 use native.Mathlib.Nat.{le_of_eq, le_trans, suc-mul, mul-le-mul_right}
 use native.Mathlib.Omega.{arith}
-use mir.Syntax.{w64}
-use mir.Val.{Fits}
 use lib.Ieee.{Float, nan}
-use lib.ListN.{length, get_or, drop_of_length-le}
+use lib.ListN.{length, get_or, replicate}
+use Rattle.std.proofs.lemmas.List.{length-replicate, get_or-replicate}
 use lib.Seq.{sets, sets-eq, ext_get_or}
 use borrow.Rule.Slice.PartMut.{put_mid, Post-is}
 use Rattle.float64.specs.Values.{nought}
-use Rattle.sequence.specs.Lists.{made, front}
+use Rattle.sequence.specs.Lists.{made}
 use Rattle.sequence.proofs.Lists.{made_length, made_at}
-use Rattle.sequence.proofs.Fronts.{Fronted}
 use Rattle.network.specs.declared.Counts.{Counts}
 use Rattle.kkt_index.specs.declared.Block.{Block}
 use Rattle.kkt_index.specs.declared.KktIdx.{KktIdx}
@@ -25,19 +23,9 @@ use Rattle.parameter_column.specs.Columns.{Touch, touched_at, word_of, touches, 
 use Rattle.parameter_column.specs.Walks.{Touched, Fitted}
 use Rattle.parameter_sheet.specs.Sheet.{Indexes}
 
--- a front that is as long as the sheet is all of it
-pub whole_front : {f : ℕ → Float} {i : ℕ} {old new : List Float} → Fronted f i old new → i ≡ length old → new ≡ made f (length old)
-unfolding front
-whole_front {f} {i} {old} p e =
-    p.is ∙ rw (made_length, e, drop_of_length-le old (le_of_eq refl), append-nil)
-
 -- an element of a parameter that is known
 pub known : (c : Counts) (i : ℕ) {k g : Served} → k ≡ g → i < elements c k → i < elements c g
 known c i e h = rw e at h
-
--- a branch's place in bytes fits a word
-pub place_fits : {i n : ℕ} → i < n → n ≤ 512 → Fits w64 (i * 8)
-place_fits h g = omega arith
 
 -- where the starts are the same, so is a word
 words_same : (f g : Block → ℕ) → ((b : Block) → f b ≡ g b) → (ts : List Touch) (r : ℕ) (a : Float) → word_of f ts r a ≡ word_of g ts r a
@@ -48,27 +36,27 @@ words_same f g h (t ∷ ts) r a = rw (h t.block) (words_same f g h ts r (touched
 -- a blank column, touched, is the definition's
 pub column_is : (c : Counts) (w ti : List ℕ) (tc : List Float) (r s : List Float) (x : KktIdx) (k : Served) (i : ℕ) (old : List Float) {mid new : List Float}
     → Indexed c x.pieces x.linear_rows x → x.linear_rows ≡ linear_row_count c w r → length old ≡ dim c x.pieces x.linear_rows
-    → mid ≡ made (λ t. nought) (length old) → Touched (start_in x) (touches c w ti tc x.pieces r s k i) mid new → new ≡ column_words c w ti tc x.pieces r s k i
+    → mid ≡ replicate (length old) nought → Touched (start_in x) (touches c w ti tc x.pieces r s k i) mid new → new ≡ column_words c w ti tc x.pieces r s k i
 unfolding column_words
 column_is c w ti tc r s x k i old {mid} {new} h l d e t =
-    let n : length new ≡ dim c x.pieces (linear_row_count c w r) = t.kept ∙ ap (λ (y : List Float). length y) e ∙ made_length (λ t. nought) (length old) ∙ d ∙ ap (λ (y : ℕ). dim c x.pieces y) l in
+    let n : length new ≡ dim c x.pieces (linear_row_count c w r) = t.kept ∙ ap (λ (y : List Float). length y) e ∙ length-replicate (length old) nought ∙ d ∙ ap (λ (y : ℕ). dim c x.pieces y) l in
     ext_get_or nan new (made (λ t. word_of (block_start c x.pieces (linear_row_count c w r)) (touches c w ti tc x.pieces r s k i) t nought) (dim c x.pieces (linear_row_count c w r)))
     (n ∙ sym (made_length _ (dim c x.pieces (linear_row_count c w r))))
     (λ q g.
     let b : q < dim c x.pieces (linear_row_count c w r) = omega (arith, n) in
-    let z : get_or mid q nan ≡ nought = ap (λ (y : List Float). get_or y q nan) e ∙ made_at (λ t. nought) (length old) q nan (omega (arith, b, d, ap (λ (y : ℕ). dim c x.pieces y) l)) in
+    let z : get_or mid q nan ≡ nought = ap (λ (y : List Float). get_or y q nan) e ∙ get_or-replicate (length old) q nought nan (omega (arith, b, d, ap (λ (y : ℕ). dim c x.pieces y) l)) in
     t.at q
     ∙ ap (λ (a : Float). word_of (start_in x) (touches c w ti tc x.pieces r s k i) q a) z
     ∙ words_same (start_in x) (block_start c x.pieces (linear_row_count c w r)) (λ b. starts h b ∙ ap (λ (y : ℕ). block_start c x.pieces y b) l) (touches c w ti tc x.pieces r s k i) q nought
     ∙ sym (made_at _ (dim c x.pieces (linear_row_count c w r)) q nan b))
 
 -- a blank column fits the system
-pub fitted : {c : Counts} {w : List ℕ} {r : List Float} {x : KktIdx} (old : List Float) {mid : List Float} → Indexes c w r x → length old ≡ x.dim → mid ≡ made (λ t. nought) (length old) → Fitted c x mid
+pub fitted : {c : Counts} {w : List ℕ} {r : List Float} {x : KktIdx} (old : List Float) {mid : List Float} → Indexes c w r x → length old ≡ x.dim → mid ≡ replicate (length old) nought → Fitted c x mid
 fitted {c} {w} {r} {x} old {mid} h d e = record {
   few = h.few;
   indexed = h.indexed;
   narrow = h.narrow;
-  room = omega (arith, d, h.indexed.dim_is, ap (λ (y : List Float). length y) e, made_length (λ (t : ℕ). nought) (length old));
+  room = omega (arith, d, h.indexed.dim_is, ap (λ (y : List Float). length y) e, length-replicate (length old) nought);
 }
 
 -- ---- a sheet, column after column

@@ -4,23 +4,23 @@
 ghost use Rattle.std.specs.Prelude.{◌≡◌, ◌≤◌, length};
 ghost use Rattle.std.specs.Float.{binary64};
 ghost use Rattle.std.specs.Float.Ieee.{div};
-ghost use Rattle.sequence.specs.Answers.{filled};
+ghost use Rattle.sequence.specs.Answers.{answered};
 ghost use Rattle.sequence.specs.Lists.{made, front};
 ghost use Rattle.network.specs.declared.Field.TheVariants.{BaseMva};
 ghost use Rattle.network.specs.Layout.{ReadingsLaid, reading};
-ghost use Rattle.network.specs.Numbers.{lent};
+ghost use Rattle.network.specs.Sites.{network_in};
 ghost use Rattle.solution.specs.declared.Entry.TheVariants.{NuBal};
 ghost use Rattle.solution.specs.Sheet.{solved, SheetLaid};
 ghost use Rattle.problem.specs.Calls.{nodal_call, read_call};
 
-use network::layout::{counts, reading};
-use network::{Counts, Field};
+use network::layout::reading;
+use network::{Counts, Field, Lent};
 use opf_layout::{OpfLayout, active_of};
 use opf_readback::read_into;
-use raw_check::raw_number;
-use sequence::Answer;
+use raw_check::accept_raw;
+use sequence::{Answer, Refusal};
 use solution::{Entry, piece_count, solved_at};
-use solution_check::{sheet_length, solution_number};
+use solution_check::{accept_solution, sheet_length};
 
 // nu_bal / base_mva of every bus.
 fn nodal_into(readings: &[f64], solution: &[f64], c: Counts, p: usize, out: &mut [f64])
@@ -37,81 +37,41 @@ fn nodal_into(readings: &[f64], solution: &[f64], c: Counts, p: usize, out: &mut
 }
 
 // The marginal objective change for an added MW at each bus: nu_bal / base_mva.
-pub fn nodal_marginal_values(
-    wiring: &[u32],
-    readings: &[f64],
-    term_index: &[u32],
-    term_coefficient: &[f64],
-    solution: &[f64],
-    out: &mut [f64],
-) -> Answer
-    ensures { filled result.number result.count out.new ≡ nodal_call (lent wiring.entry readings.entry term_index.entry term_coefficient.entry) solution.now out.old }
+pub fn nodal_marginal_values(lent: Lent<'_>, solution: &[f64], out: &mut [f64]) -> Answer
+    ensures { answered result out.new ≡ nodal_call (network_in lent.entry) solution.now out.old }
 {
-    let number = solution_number(
-        wiring,
-        readings,
-        term_index,
-        term_coefficient,
-        solution,
-        true,
-    );
-    if number != 0 {
-        return Answer { number, count: 0 };
-    }
-    let c = counts(wiring);
+    let site = accept_solution(lent, solution, true)?;
+    let c = site.counts;
     if out.len() < c.buses {
-        return Answer {
-            number: 7,
-            count: 0,
-        };
+        return Err(Refusal::Short);
     }
-    nodal_into(readings, solution, c, piece_count(wiring, c), out);
-    Answer {
-        number: 0,
-        count: c.buses,
-    }
+    nodal_into(site.readings, solution, c, piece_count(site.wiring, c), out);
+    Ok(c.buses)
 }
 
 // The solution sheet that a solver's primal and dual vectors and its objective give.
 pub fn read_dc_solution(
-    wiring: &[u32],
-    readings: &[f64],
-    term_index: &[u32],
-    term_coefficient: &[f64],
+    lent: Lent<'_>,
     x: &[f64],
     z: &[f64],
     objective: f64,
     out: &mut [f64],
 ) -> Answer
-    ensures { filled result.number result.count out.new ≡ read_call (lent wiring.entry readings.entry term_index.entry term_coefficient.entry) x.now z.now objective out.old }
+    ensures { answered result out.new ≡ read_call (network_in lent.entry) x.now z.now objective out.old }
 {
-    let number = raw_number(
-        wiring,
-        readings,
-        term_index,
-        term_coefficient,
-        x,
-        z,
-        objective,
-    );
-    if number != 0 {
-        return Answer { number, count: 0 };
-    }
-    let c = counts(wiring);
-    let p = piece_count(wiring, c);
+    let site = accept_raw(lent, x, z, objective)?;
+    let c = site.counts;
+    let p = piece_count(site.wiring, c);
     let count = sheet_length(c, p);
     if out.len() < count {
-        return Answer {
-            number: 7,
-            count: 0,
-        };
+        return Err(Refusal::Short);
     }
-    let lay = OpfLayout::dc(c, active_of(wiring, readings, c));
+    let lay = OpfLayout::dc(c, active_of(site.wiring, site.readings, c));
     read_into(
-        wiring,
-        readings,
-        term_index,
-        term_coefficient,
+        site.wiring,
+        site.readings,
+        site.term_index,
+        site.term_coefficient,
         x,
         z,
         objective,
@@ -120,5 +80,5 @@ pub fn read_dc_solution(
         lay,
         out,
     );
-    Answer { number: 0, count }
+    Ok(count)
 }

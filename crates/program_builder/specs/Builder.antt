@@ -3,7 +3,8 @@ use Rattle.std.specs.Prelude.{ℕ, not, List, get_or, set, Float}
 use Rattle.std.specs.Float.{nan, binary64}
 use Rattle.std.specs.Float.Ieee.{eq, add}
 use Rattle.float64.specs.Values.{nought}
-use Rattle.sequence.specs.Sheets.{Triplet, item, emit}
+use Rattle.sequence.specs.declared.Triplet.{Triplet}
+use Rattle.sequence.specs.Sheets.{item, emit}
 
 -- `quad` and `a`: "zero values dropped"
 abbrev pub kept : ℕ → ℕ → Float → List Triplet

@@ -6,7 +6,7 @@ ghost use Rattle.std.specs.Prelude.{◌≡◌, ◌+◌, ◌<◌, ◌≤◌, leng
 ghost use Rattle.sequence.specs.Sheets.{held, Puts, Room};
 ghost use Rattle.program_builder.specs.Builder.{kept, added, replaced};
 
-use sequence::{Item, put};
+use sequence::{Triplet, put};
 
 // Entry `A[r, c]`; zeros are dropped.
 pub fn a(
@@ -24,19 +24,12 @@ pub fn a(
     ensures puts { Puts limit (kept r c v) (held rows.entry cols.entry values.entry at) (held rows.exit cols.exit values.exit result) }
     ensures most { result ≤ at + 1 }
 {
-    put(
-        rows,
-        cols,
-        values,
-        limit,
-        at,
-        Item {
-            keep: v != 0.0,
-            row: r as u32,
-            col: c as u32,
-            value: v,
-        },
-    )
+    let triplet = Triplet {
+        row: r as u32,
+        col: c as u32,
+        value: v,
+    };
+    put(rows, cols, values, limit, at, (v != 0.0).then_some(triplet))
 }
 
 // Diagonal entry `P[c, c]`.
@@ -62,7 +55,7 @@ pub fn lin(q: &mut [f64], c: usize, v: f64)
     requires { c < length q.old }
     ensures { q.new ≡ added q.old c v }
 {
-    q[c] = q[c] + v;
+    q[c] += v;
 }
 
 // The right side of row r: sets.

@@ -8,7 +8,6 @@ use lib.ListN.{length}
 use lib.Ieee.{Float}
 use borrow.Author.Tests.{eq-eqb, ne_eqb}
 use Rattle.network.specs.declared.Counts.{Counts}
-use Rattle.network.specs.Layout.{counts_of}
 use Rattle.network.specs.Numbers.{Network, Accepted}
 use Rattle.model.proofs.Calls.{both_equal}
 use Rattle.solution_check.specs.Tests.{counted}
@@ -29,8 +28,8 @@ module _ (N : Network) (x z : List Float) {c : Counts} {a : Active} {l : OpfLayo
   columns_off f = let h = rw (p.nvar_is, q, k) at f in rw (ne_eqb _ _ h)
 
 -- an accepted network whose raw vectors are as long as the program
-pub raw_accepted : (N : Network) (x z : List Float) → Accepted N (counts_of N.wiring) → raw_long N x z ≡ true → RawAccepted N x z (counts_of N.wiring)
+pub raw_accepted : (N : Network) (x z : List Float) {c : Counts} → Accepted N c → raw_long N x z ≡ true → RawAccepted N x z c
 unfolding raw_long
 raw_accepted N x z a e =
     let l = both_equal (length x) (nvar (counted N) (active_in N)) (length z) (ncon (counted N) (active_in N)) e in
-    record { accepted = a; columns_long = l.0; rows_long = l.1 }
+    record { accepted = a; columns_long = rw a.counts l.0; rows_long = rw a.counts l.1 }

@@ -1,29 +1,30 @@
 // Numbers 1 to 3 of a network with a solver's raw vectors.
 #![tactic(auto)]
 
-ghost use Rattle.std.specs.Prelude.{◌≡◌, true, ℕ};
-ghost use Rattle.sequence.specs.Answers.{first_of};
-ghost use Rattle.network.specs.Layout.{counts_of};
-ghost use Rattle.network.specs.Numbers.{lent, sizes_hold};
+ghost use Rattle.std.specs.Prelude.{◌≡◌, true, IfOk};
+ghost use Rattle.sequence.specs.Answers.{first_of, number_of};
+ghost use Rattle.network.specs.Numbers.{sizes_hold};
+ghost use Rattle.network.specs.Sites.{network_in, SiteOf};
 ghost use Rattle.raw_check.specs.Tests.{raw_long, raw_holds, raw_tests, RawAccepted};
 
 use float64::{raw_limit, within};
-use network::check::{all_within, network_number_with, sizes_hold};
+use network::check::{all_within, sizes_hold};
 use network::layout::counts;
+use network::{Lent, Site};
 use opf_layout::{OpfLayout, active_of};
+use sequence::Refusal;
 
 // Whether the raw vectors are as long as the program; on a network whose own sizes don't hold any answer
 // will do.
-fn raw_is_long(
-    wiring: &[u32],
-    readings: &[f64],
-    term_index: &[u32],
-    term_coefficient: &[f64],
-    x: &[f64],
-    z: &[f64],
-) -> bool
-    ensures { sizes_hold (lent wiring.entry readings.entry term_index.entry term_coefficient.entry) ≡ true → result ≡ raw_long (lent wiring.entry readings.entry term_index.entry term_coefficient.entry) x.now z.now }
+fn raw_is_long(lent: Lent<'_>, x: &[f64], z: &[f64]) -> bool
+    ensures { sizes_hold (network_in lent.entry) ≡ true → result ≡ raw_long (network_in lent.entry) x.now z.now }
 {
+    let Lent {
+        wiring,
+        readings,
+        term_index,
+        term_coefficient,
+    } = lent;
     if !sizes_hold(wiring, readings, term_index, term_coefficient) {
         return false;
     }
@@ -46,26 +47,17 @@ fn raw_holds(x: &[f64], z: &[f64], raw: f64) -> bool
     within(raw, limit)
 }
 
-// The number of a network with the raw vectors: 0, or the lowest of 1 to 3 whose condition holds.
-pub fn raw_number(
-    wiring: &[u32],
-    readings: &[f64],
-    term_index: &[u32],
-    term_coefficient: &[f64],
-    x: &[f64],
-    z: &[f64],
-    raw: f64,
-) -> u32
-    ensures value { result ≡ first_of (raw_tests (lent wiring.entry readings.entry term_index.entry term_coefficient.entry) x.now z.now raw) }
-    ensures raw_accepted { result ≡ 0 → RawAccepted (lent wiring.entry readings.entry term_index.entry term_coefficient.entry) x.now z.now (counts_of wiring.now) }
+// A network with the raw vectors and objective, where none of the numbers 1 to 3 is due to either.
+pub fn accept_raw<'a>(lent: Lent<'a>, x: &[f64], z: &[f64], raw: f64) -> Result<Site<'a>, Refusal>
+    ensures number { number_of result ≡ first_of (raw_tests (network_in lent.entry) x.now z.now raw) }
+    ensures accepted { IfOk result (SiteOf lent.entry) }
+    ensures raw_accepted { IfOk result (λ site. RawAccepted (network_in lent.entry) x.now z.now site.counts) }
 {
-    let sizes = raw_is_long(wiring, readings, term_index, term_coefficient, x, z);
-    let number = network_number_with(wiring, readings, term_index, term_coefficient, sizes, true);
-    if number != 0 {
-        return number;
-    }
+    let sizes = raw_is_long(lent, x, z);
+    let site = lent.accept_with(sizes, true)?;
     if raw_holds(x, z, raw) {
-        return 0;
+        Ok(site)
+    } else {
+        Err(Refusal::Reading)
     }
-    3
 }

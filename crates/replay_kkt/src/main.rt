@@ -3,14 +3,16 @@
 // and how many of them the matrix call answers otherwise.
 #![tactic(auto)]
 
-ghost use Rattle.std.specs.Prelude.{◌+◌, ◌≤◌, ◌<◌, length};
+ghost use Rattle.std.specs.Prelude.{◌+◌, ◌≤◌, ◌<◌, length, IfSome};
+
+use capi_sens::matrix::capi_kkt_triplets;
 
 // Standard input and output, as every process is given them.
 const STDIN_FILENO: i32 = 0;
 
 const STDOUT_FILENO: i32 = 1;
 
-// Where a case ends, and whether it was answered as recorded; 0 where no whole case is left.
+// Where a case ends, and whether it was answered as recorded.
 #[derive(Clone, Copy)]
 struct Replayed {
     end: usize,
@@ -18,15 +20,9 @@ struct Replayed {
 }
 
 fn main() {
-    let mut buffer = [0u8; 262144];
-    let n = io::read_full(STDIN_FILENO, &mut buffer);
-    replay(&buffer[..n]);
-}
-
-fn wide(x: u8) -> usize
-    ensures { result < 256 }
-{
-    x as usize
+    let mut buffer = [0; 262144];
+    let read = io::read_full(STDIN_FILENO, &mut buffer);
+    replay(&buffer[..read]);
 }
 
 // The length at a place: at most 65535.
@@ -34,23 +30,12 @@ fn length_at(b: &[u8], at: usize) -> usize
     requires { at + 2 ≤ length b.now }
     ensures { result < 0x1_0000 }
 {
-    wide(b[at]) + 256 * wide(b[at + 1])
+    usize::from(u16::from_le_bytes([b[at], b[at + 1]]))
 }
 
 // Whether the first `count` bytes of a sheet are the recorded ones.
 fn same(sheet: &[u8], count: usize, recorded: &[u8]) -> bool {
-    if sheet.len() < count {
-        return false;
-    }
-    if recorded.len() != count {
-        return false;
-    }
-    for i in 0..count {
-        if sheet[i] != recorded[i] {
-            return false;
-        }
-    }
-    true
+    sheet.get(..count) == Some(recorded)
 }
 
 // One case: the call on the lent slices, held against the recorded triplets.
@@ -70,7 +55,7 @@ fn answered(
     let mut rows = [0u8; 1024];
     let mut cols = [0u8; 1024];
     let mut values = [0u8; 2048];
-    let answer = capi_sens::matrix::capi_kkt_triplets(
+    let answer = capi_kkt_triplets(
         wiring,
         readings,
         term_index,
@@ -80,76 +65,54 @@ fn answered(
         &mut cols,
         &mut values,
     );
-    if answer != 256 * (count as u64) {
-        return false;
-    }
-    if !same(&rows, 4 * count, recorded_rows) {
-        return false;
-    }
-    if !same(&cols, 4 * count, recorded_cols) {
-        return false;
-    }
-    same(&values, 8 * count, recorded_values)
+    answer == 256 * (count as u64)
+        && same(&rows, 4 * count, recorded_rows)
+        && same(&cols, 4 * count, recorded_cols)
+        && same(&values, 8 * count, recorded_values)
 }
 
-// The case at the front of what is left.
-fn case_at(b: &[u8]) -> Replayed
-    ensures { result.end ≤ length b.now }
+// The case at the front of what is left, where a whole one is.
+fn case_at(b: &[u8]) -> Option<Replayed>
+    ensures { IfSome result (λ case. (0 < case.end) × (case.end ≤ length b.now)) }
 {
     if b.len() < 24 {
-        return Replayed {
-            end: 0,
-            same: false,
-        };
+        return None;
     }
     let count = length_at(b, 20);
-    let w = 24 + length_at(b, 0);
-    let r = w + length_at(b, 4);
-    let i = r + length_at(b, 8);
-    let k = i + length_at(b, 12);
-    let s = k + length_at(b, 16);
-    let x = s + 4 * count;
-    let y = x + 4 * count;
-    let end = y + 8 * count;
+    let readings_at = 24 + length_at(b, 0);
+    let index_at = readings_at + length_at(b, 4);
+    let coefficient_at = index_at + length_at(b, 8);
+    let solution_at = coefficient_at + length_at(b, 12);
+    let rows_at = solution_at + length_at(b, 16);
+    let cols_at = rows_at + 4 * count;
+    let values_at = cols_at + 4 * count;
+    let end = values_at + 8 * count;
     if b.len() < end {
-        return Replayed {
-            end: 0,
-            same: false,
-        };
+        return None;
     }
     let same = answered(
-        &b[24..w],
-        &b[w..r],
-        &b[r..i],
-        &b[i..k],
-        &b[k..s],
+        &b[24..readings_at],
+        &b[readings_at..index_at],
+        &b[index_at..coefficient_at],
+        &b[coefficient_at..solution_at],
+        &b[solution_at..rows_at],
         count,
-        &b[s..x],
-        &b[x..y],
-        &b[y..end],
+        &b[rows_at..cols_at],
+        &b[cols_at..values_at],
+        &b[values_at..end],
     );
-    Replayed { end, same }
-}
-
-fn one_if(b: bool) -> u64
-    ensures { result ≤ 1 }
-{
-    if b { 1 } else { 0 }
+    Some(Replayed { end, same })
 }
 
 // Every case.
 fn replay(b: &[u8]) {
     let mut at = 0;
-    let mut cases: u64 = 0;
-    let mut wrong: u64 = 0;
-    for turn in 0..1000usize {
-        let c = case_at(&b[at..]);
-        if c.end == 0 {
-            break;
-        }
-        at += c.end;
+    let mut cases = 0u64;
+    let mut wrong = 0u64;
+    while let Some(case) = case_at(&b[at..]) {
+        at += case.end;
         cases += 1;
-        wrong += one_if(!c.same);
+        wrong += u64::from(!case.same);
     }
     io::print_decimal(STDOUT_FILENO, cases);
     io::write_all(STDOUT_FILENO, b" cases, ");

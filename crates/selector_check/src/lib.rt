@@ -1,43 +1,39 @@
 // Numbers 1, 3, 4 and 5 of a selector and a mode, with the network's; and products that may not fit a word.
 #![tactic(auto)]
 
-ghost use Rattle.std.specs.Prelude.{◌≡◌, true, ◌&&◌, ℕ, ◌*◌, length, get_or, eqb, leb};
+ghost use Rattle.std.specs.Prelude.{◌≡◌, true, ◌*◌, length, get_or, eqb, leb, IfOk};
 ghost use Rattle.sequence.specs.Lists.{before};
-ghost use Rattle.sequence.specs.Answers.{first_of};
+ghost use Rattle.sequence.specs.Answers.{first_of, number_of};
 ghost use Rattle.network.specs.Layout.{WiringLaid, ReadingsLaid};
-ghost use Rattle.network.specs.Numbers.{lent, sizes_hold};
+ghost use Rattle.network.specs.Numbers.{sizes_hold};
+ghost use Rattle.network.specs.Sites.{network_in, SiteOf};
 ghost use Rattle.solution.specs.Sheet.{pieces};
 ghost use Rattle.kkt_index.specs.Index.{linear_row_count, dim};
-ghost use Rattle.contraction.specs.Contraction.{selector_of};
-ghost use Rattle.selector_check.specs.Tests.{dim_of, selector_long, selector_holds, is_auto, rows_below, selector_tests, Selected};
+ghost use Rattle.contraction.specs.Selectors.{selector_in};
+ghost use Rattle.selector_check.specs.Tests.{dim_of, selector_long, selector_holds, rows_below, selector_tests, Selected};
 
+use contraction::Selector;
 use float64::{raw_limit, within};
 use interface::Mode;
 use kkt_index::{KktIdx, linear_rows};
-use network::Counts;
-use network::check::{all_within, network_number_with, sizes_hold};
+use network::check::{all_within, sizes_hold};
 use network::layout::{counts, wide};
-use sequence::both;
+use network::{Counts, Lent, Site};
+use sequence::Refusal;
 use solution::piece_count;
 
-// Whether a times b is at most n; no product is made that may not fit.
+// Whether a times b is at most n.
 pub fn fits(a: usize, b: usize, n: usize) -> bool
     ensures { result ≡ leb (a * b) n }
 {
-    if a == 0 {
-        return true;
-    }
-    b <= n / a
+    a.checked_mul(b).is_some_and(|product| product <= n)
 }
 
 // Whether n is a times b.
 pub fn is_product(a: usize, b: usize, n: usize) -> bool
     ensures { result ≡ eqb n (a * b) }
 {
-    if !fits(a, b, n) {
-        return false;
-    }
-    n == a * b
+    a.checked_mul(b) == Some(n)
 }
 
 // The dimension of the network's KKT system.
@@ -51,18 +47,26 @@ fn dim_at(wiring: &[u32], readings: &[f64], c: Counts) -> usize
 }
 
 // The same of a network as it is lent; where its own sizes don't hold any answer will do.
-pub fn dim_of(
-    wiring: &[u32],
-    readings: &[f64],
-    term_index: &[u32],
-    term_coefficient: &[f64],
-) -> usize
-    ensures { sizes_hold (lent wiring.entry readings.entry term_index.entry term_coefficient.entry) ≡ true → result ≡ dim_of (lent wiring.entry readings.entry term_index.entry term_coefficient.entry) }
+pub fn dim_of(lent: Lent<'_>) -> usize
+    ensures { sizes_hold (network_in lent.entry) ≡ true → result ≡ dim_of (network_in lent.entry) }
 {
+    let Lent {
+        wiring,
+        readings,
+        term_index,
+        term_coefficient,
+    } = lent;
     if !sizes_hold(wiring, readings, term_index, term_coefficient) {
         return 0;
     }
     dim_at(wiring, readings, counts(wiring))
+}
+
+// The same of an accepted network.
+pub fn site_dim(site: Site<'_>) -> usize
+    ensures { result ≡ dim site.entry.counts (pieces site.entry.counts site.entry.wiring.now) (linear_row_count site.entry.counts site.entry.wiring.now site.entry.readings.now) }
+{
+    dim_at(site.wiring, site.readings, site.counts)
 }
 
 // Whether the counts sum to n. They are taken off n one after the other, so that no sum wraps.
@@ -70,88 +74,65 @@ fn counts_sum(counts: &[u32], n: usize) -> bool
     ensures { result ≡ eqb (before (λ i. get_or counts.now i 0) (length counts.now)) n }
 {
     let mut left = n;
-    for o in 0..counts.len() {
-        let k = wide(counts[o]);
-        if left < k {
+    for count in counts {
+        let Some(rest) = left.checked_sub(wide(*count)) else {
             return false;
-        }
-        left -= k;
+        };
+        left = rest;
     }
     left == 0
 }
 
 // Whether there are as many rows as weights, and as many entries as the counts say.
-fn selector_is_long(sign: f64, counts: &[u32], rows: &[u32], weights: &[f64]) -> bool
-    ensures { result ≡ selector_long (selector_of sign counts.entry rows.entry weights.entry) }
+fn selector_is_long(selector: Selector<'_>) -> bool
+    ensures { result ≡ selector_long (selector_in selector.entry) }
 {
-    if rows.len() != weights.len() {
-        return false;
-    }
-    counts_sum(counts, rows.len())
+    let entries = selector.rows.len();
+    entries == selector.weights.len() && counts_sum(selector.counts, entries)
 }
 
 // Whether the sign and the weights are within their limits.
-fn selector_holds(sign: f64, counts: &[u32], rows: &[u32], weights: &[f64]) -> bool
-    ensures { result ≡ selector_holds (selector_of sign counts.entry rows.entry weights.entry) }
+fn selector_holds(selector: Selector<'_>) -> bool
+    ensures { result ≡ selector_holds (selector_in selector.entry) }
 {
     let limit = raw_limit();
-    if !within(sign, limit) {
-        return false;
-    }
-    all_within(weights, limit)
-}
-
-fn is_auto(mode: Mode) -> bool
-    ensures { result ≡ is_auto mode }
-{
-    match mode {
-        Mode::Forward => false,
-        Mode::Adjoint => false,
-        Mode::Auto => true,
-    }
+    within(selector.sign, limit) && all_within(selector.weights, limit)
 }
 
 // Whether each row is below dim.
 fn rows_below(rows: &[u32], dim: usize) -> bool
     ensures { result ≡ rows_below dim rows.now }
 {
-    for t in 0..rows.len() {
-        if dim <= wide(rows[t]) {
+    for row in rows {
+        if dim <= wide(*row) {
             return false;
         }
     }
     true
 }
 
-// The number of a network with a selector and a mode, and with a call's further sizes and values: 0, or the
-// lowest of 1 to 5 whose condition holds.
-pub fn selector_number(
-    wiring: &[u32],
-    readings: &[f64],
-    term_index: &[u32],
-    term_coefficient: &[f64],
+// A network with a selector and a mode, and with a call's further sizes and values, where none of the numbers 1 to 5
+// is due to any of them.
+pub fn accept_selector<'a>(
+    lent: Lent<'a>,
     mode: Mode,
-    sign: f64,
-    counts: &[u32],
-    rows: &[u32],
-    weights: &[f64],
+    selector: Selector<'_>,
     sizes: bool,
     values: bool,
-) -> u32
-    ensures value { result ≡ first_of (selector_tests (lent wiring.entry readings.entry term_index.entry term_coefficient.entry) sizes values mode (selector_of sign counts.entry rows.entry weights.entry)) }
-    ensures selected { result ≡ 0 → Selected (lent wiring.entry readings.entry term_index.entry term_coefficient.entry) sizes mode (selector_of sign counts.entry rows.entry weights.entry) }
+) -> Result<Site<'a>, Refusal>
+    ensures number { number_of result ≡ first_of (selector_tests (network_in lent.entry) sizes values mode (selector_in selector.entry)) }
+    ensures accepted { IfOk result (SiteOf lent.entry) }
+    ensures selected { IfOk result (λ site. Selected (network_in lent.entry) sizes mode (selector_in selector.entry)) }
 {
-    let long = both(selector_is_long(sign, counts, rows, weights), sizes);
-    let hold = both(selector_holds(sign, counts, rows, weights), values);
-    let number = network_number_with(wiring, readings, term_index, term_coefficient, long, hold);
-    if number != 0 {
-        return number;
+    let long = selector_is_long(selector) & sizes;
+    let hold = selector_holds(selector) & values;
+    let site = lent.accept_with(long, hold)?;
+    if mode == Mode::Auto {
+        return Err(Refusal::Kind);
     }
-    if is_auto(mode) {
-        return 4;
+    if rows_below(selector.rows, site_dim(site)) {
+        Ok(site)
+    } else {
+        Err(Refusal::Element)
     }
-    if rows_below(rows, dim_of(wiring, readings, term_index, term_coefficient)) {
-        return 0;
-    }
-    5
 }

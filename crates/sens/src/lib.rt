@@ -1,129 +1,75 @@
 // sens/mod.rs, `forward_adjoint` around an outside solve: a call before it, one for its right side, and one after it.
 #![tactic(auto)]
 
-ghost use Rattle.std.specs.Prelude.{◌≡◌, ℕ, ◌*◌, ◌≤◌, length};
-ghost use Rattle.sequence.specs.Answers.{first_of, filled};
-ghost use Rattle.network.specs.Numbers.{lent};
-ghost use Rattle.contraction.specs.Contraction.{selector_of, selection_sheet, Entered};
+ghost use Rattle.std.specs.Prelude.{◌≡◌, ◌*◌, ◌≤◌, length, IfOk};
+ghost use Rattle.sequence.specs.Answers.{first_of, number_of, answered};
+ghost use Rattle.network.specs.Sites.{network_in, SiteOf};
+ghost use Rattle.contraction.specs.Contraction.{selection_sheet, Entered};
+ghost use Rattle.contraction.specs.Selectors.{selector_in};
 ghost use Rattle.sens.specs.Calls.{count_fits, first_tests, FirstAccepted, fills_if, first_call, front_of, side_of, solved_long, third_long, third_holds, third_tests, third_call, ThirdAccepted};
 
-use contraction::{contract, select};
+use contraction::{Selector, contract, select};
 use float64::{parameter_limit, sheet_limit};
 use interface::Mode;
 use network::check::all_within;
-use selector_check::{dim_of, fits, is_product, selector_number};
-use sequence::{Answer, both};
+use network::{Lent, Site};
+use selector_check::{accept_selector, dim_of, fits, is_product, site_dim};
+use sequence::{Answer, Refusal};
 
 // Whether the count of the right side is a `usize`.
 fn count_fits(mode: Mode, dim: usize, columns: usize) -> bool
     ensures { result ≡ count_fits mode dim columns }
 {
     match mode {
-        Mode::Forward => fits(dim, columns, 0xffff_ffff_ffff_ffff),
-        Mode::Adjoint => true,
-        Mode::Auto => true,
+        Mode::Forward => fits(dim, columns, usize::MAX),
+        Mode::Adjoint | Mode::Auto => true,
     }
 }
 
-// The number of the first call, without its output's room.
-fn first_number(
-    wiring: &[u32],
-    readings: &[f64],
-    term_index: &[u32],
-    term_coefficient: &[f64],
+// The first call's network, where none of its numbers is due but its output's room.
+fn accept_first<'a>(
+    lent: Lent<'a>,
     mode: Mode,
-    sign: f64,
-    counts: &[u32],
-    rows: &[u32],
-    weights: &[f64],
+    selector: Selector<'_>,
     columns: usize,
-) -> u32
-    ensures value { result ≡ first_of (first_tests (lent wiring.entry readings.entry term_index.entry term_coefficient.entry) mode (selector_of sign counts.entry rows.entry weights.entry) columns) }
-    ensures first_accepted { result ≡ 0 → FirstAccepted (lent wiring.entry readings.entry term_index.entry term_coefficient.entry) mode (selector_of sign counts.entry rows.entry weights.entry) columns }
+) -> Result<Site<'a>, Refusal>
+    ensures number { number_of result ≡ first_of (first_tests (network_in lent.entry) mode (selector_in selector.entry) columns) }
+    ensures accepted { IfOk result (SiteOf lent.entry) }
+    ensures first_accepted { IfOk result (λ site. FirstAccepted (network_in lent.entry) mode (selector_in selector.entry) columns) }
 {
-    let dim = dim_of(wiring, readings, term_index, term_coefficient);
-    let sizes = count_fits(mode, dim, columns);
-    selector_number(
-        wiring,
-        readings,
-        term_index,
-        term_coefficient,
-        mode,
-        sign,
-        counts,
-        rows,
-        weights,
-        sizes,
-        true,
-    )
+    let sizes = count_fits(mode, dim_of(lent), columns);
+    accept_selector(lent, mode, selector, sizes, true)
 }
 
-// The selection sheet where it fits, and number 7 where it does not.
-fn lay_selection(
-    sign: f64,
-    counts: &[u32],
-    rows: &[u32],
-    weights: &[f64],
-    dim: usize,
-    selection: &mut [f64],
-) -> Answer
-    requires { Entered (selector_of sign counts rows weights) dim }
-    ensures { filled result.number result.count selection.new ≡ fills_if (selection_sheet (selector_of sign counts.entry rows.entry weights.entry) dim) selection.old }
+// The selection sheet, where it has room.
+fn lay_selection(selector: Selector<'_>, dim: usize, selection: &mut [f64]) -> Answer
+    requires { Entered (selector_in selector) dim }
+    ensures { answered result selection.new ≡ fills_if (selection_sheet (selector_in selector.entry) dim) selection.old }
 {
-    let elements = counts.len();
+    let elements = selector.counts.len();
     if !fits(dim, elements, selection.len()) {
-        return Answer {
-            number: 7,
-            count: 0,
-        };
+        return Err(Refusal::Short);
     }
-    let count = dim * elements;
-    select(sign, counts, rows, weights, dim, selection);
-    Answer { number: 0, count }
+    select(selector, dim, selection);
+    Ok(dim * elements)
 }
 
 // Before the solve: the count of the right side, and when adjoint the selection sheet.
 pub fn contraction_first(
-    wiring: &[u32],
-    readings: &[f64],
-    term_index: &[u32],
-    term_coefficient: &[f64],
+    lent: Lent<'_>,
     mode: Mode,
-    sign: f64,
-    counts: &[u32],
-    rows: &[u32],
-    weights: &[f64],
+    selector: Selector<'_>,
     columns: usize,
     selection: &mut [f64],
 ) -> Answer
-    ensures { filled result.number result.count selection.new ≡ first_call (lent wiring.entry readings.entry term_index.entry term_coefficient.entry) mode (selector_of sign counts.entry rows.entry weights.entry) columns selection.old }
+    ensures { answered result selection.new ≡ first_call (network_in lent.entry) mode (selector_in selector.entry) columns selection.old }
 {
-    let number = first_number(
-        wiring,
-        readings,
-        term_index,
-        term_coefficient,
-        mode,
-        sign,
-        counts,
-        rows,
-        weights,
-        columns,
-    );
-    if number != 0 {
-        return Answer { number, count: 0 };
-    }
-    let dim = dim_of(wiring, readings, term_index, term_coefficient);
+    let site = accept_first(lent, mode, selector, columns)?;
+    let dim = site_dim(site);
     match mode {
-        Mode::Forward => Answer {
-            number: 0,
-            count: dim * columns,
-        },
-        Mode::Adjoint => lay_selection(sign, counts, rows, weights, dim, selection),
-        Mode::Auto => Answer {
-            number: 4,
-            count: 0,
-        },
+        Mode::Forward => Ok(dim * columns),
+        Mode::Adjoint => lay_selection(selector, dim, selection),
+        Mode::Auto => Err(Refusal::Kind),
     }
 }
 
@@ -131,11 +77,7 @@ pub fn contraction_first(
 fn front(sheet: &[f64], count: usize) -> &[f64]
     ensures { result.now ≡ front_of sheet.now count }
 {
-    if count <= sheet.len() {
-        &sheet[..count]
-    } else {
-        &sheet[..0]
-    }
+    sheet.get(..count).unwrap_or(&[])
 }
 
 // The right side to be solved: of the parameter sheet when forward, of the selection sheet when adjoint.
@@ -150,7 +92,7 @@ pub fn right_side<'a>(
     match mode {
         Mode::Forward => front(parameter, count),
         Mode::Adjoint => front(selection, count),
-        Mode::Auto => &parameter[..0],
+        Mode::Auto => &[],
     }
 }
 
@@ -176,10 +118,7 @@ fn third_is_long(
 ) -> bool
     ensures { result ≡ third_long mode dim columns elements parameter solved }
 {
-    both(
-        fits(dim, columns, parameter),
-        solved_is_long(mode, dim, columns, elements, solved),
-    )
+    fits(dim, columns, parameter) && solved_is_long(mode, dim, columns, elements, solved)
 }
 
 // Whether the parameter columns and the solved columns are within their limits; where the parameter sheet is
@@ -190,102 +129,54 @@ fn third_holds(dim: usize, columns: usize, parameter: &[f64], solved: &[f64]) ->
     if !fits(dim, columns, parameter.len()) {
         return false;
     }
-    let to = dim * columns;
-    if !all_within(&parameter[0..to], parameter_limit()) {
-        return false;
-    }
-    all_within(solved, sheet_limit())
+    all_within(&parameter[..dim * columns], parameter_limit()) && all_within(solved, sheet_limit())
 }
 
-// The number of the third call, without its output's room.
-fn third_number(
-    wiring: &[u32],
-    readings: &[f64],
-    term_index: &[u32],
-    term_coefficient: &[f64],
+// The third call's network, where none of its numbers is due but its output's room.
+fn accept_third<'a>(
+    lent: Lent<'a>,
     mode: Mode,
-    sign: f64,
-    counts: &[u32],
-    rows: &[u32],
-    weights: &[f64],
+    selector: Selector<'_>,
     columns: usize,
     parameter: &[f64],
     solved: &[f64],
-) -> u32
-    ensures value { result ≡ first_of (third_tests (lent wiring.entry readings.entry term_index.entry term_coefficient.entry) mode (selector_of sign counts.entry rows.entry weights.entry) columns parameter.now solved.now) }
-    ensures third_accepted { result ≡ 0 → ThirdAccepted (lent wiring.entry readings.entry term_index.entry term_coefficient.entry) mode (selector_of sign counts.entry rows.entry weights.entry) columns parameter.now solved.now }
+) -> Result<Site<'a>, Refusal>
+    ensures number { number_of result ≡ first_of (third_tests (network_in lent.entry) mode (selector_in selector.entry) columns parameter.now solved.now) }
+    ensures accepted { IfOk result (SiteOf lent.entry) }
+    ensures third_accepted { IfOk result (λ site. ThirdAccepted (network_in lent.entry) mode (selector_in selector.entry) columns parameter.now solved.now) }
 {
-    let dim = dim_of(wiring, readings, term_index, term_coefficient);
-    let sizes = third_is_long(
-        mode,
-        dim,
-        columns,
-        counts.len(),
-        parameter.len(),
-        solved.len(),
-    );
+    let dim = dim_of(lent);
+    let elements = selector.counts.len();
+    let sizes = third_is_long(mode, dim, columns, elements, parameter.len(), solved.len());
     let values = third_holds(dim, columns, parameter, solved);
-    selector_number(
-        wiring,
-        readings,
-        term_index,
-        term_coefficient,
-        mode,
-        sign,
-        counts,
-        rows,
-        weights,
-        sizes,
-        values,
-    )
+    accept_selector(lent, mode, selector, sizes, values)
 }
 
 // After the solve: the solved columns contracted, "element by element, columns within".
 pub fn contraction_third(
-    wiring: &[u32],
-    readings: &[f64],
-    term_index: &[u32],
-    term_coefficient: &[f64],
+    lent: Lent<'_>,
     mode: Mode,
-    sign: f64,
-    counts: &[u32],
-    rows: &[u32],
-    weights: &[f64],
+    selector: Selector<'_>,
     columns: usize,
     parameter: &[f64],
     solved: &[f64],
     out: &mut [f64],
 ) -> Answer
-    ensures { filled result.number result.count out.new ≡ third_call (lent wiring.entry readings.entry term_index.entry term_coefficient.entry) mode (selector_of sign counts.entry rows.entry weights.entry) columns parameter.now solved.now out.old }
+    ensures { answered result out.new ≡ third_call (network_in lent.entry) mode (selector_in selector.entry) columns parameter.now solved.now out.old }
 {
-    let number = third_number(
-        wiring,
-        readings,
-        term_index,
-        term_coefficient,
+    let site = accept_third(lent, mode, selector, columns, parameter, solved)?;
+    let elements = selector.counts.len();
+    if !fits(elements, columns, out.len()) {
+        return Err(Refusal::Short);
+    }
+    contract(
         mode,
-        sign,
-        counts,
-        rows,
-        weights,
+        selector,
+        site_dim(site),
         columns,
         parameter,
         solved,
+        out,
     );
-    if number != 0 {
-        return Answer { number, count: 0 };
-    }
-    let elements = counts.len();
-    if !fits(elements, columns, out.len()) {
-        return Answer {
-            number: 7,
-            count: 0,
-        };
-    }
-    let count = elements * columns;
-    let dim = dim_of(wiring, readings, term_index, term_coefficient);
-    contract(
-        mode, sign, counts, rows, weights, dim, columns, parameter, solved, out,
-    );
-    Answer { number: 0, count }
+    Ok(elements * columns)
 }

@@ -5,7 +5,8 @@ use mathlib.Core.List.{List, [], ◌∷◌}
 use Prim.Native.Nat.{ℕ}
 use lib.Ieee.{Float}
 use Rattle.sequence.specs.Answers.{Test, test, first_of}
-use Rattle.sequence.specs.Sheets.{Triplet, laid, lays, lays_if, short_list}
+use Rattle.sequence.specs.declared.Triplet.{Triplet}
+use Rattle.sequence.specs.Sheets.{laid, lays, lays_if, short_list}
 use Rattle.sequence.proofs.Sheets.{lays_refused}
 use Rattle.network.specs.Numbers.{Network}
 use Rattle.model.proofs.Calls.{network_stands, network_passes}

@@ -1,7 +1,8 @@
 -- The matrix call: 01's number, the count of triplets, and the three sheets afterwards. The reference rule and the tests after 7 are parameters. Assumes nothing.
 use Rattle.std.specs.Prelude.{ℕ, false, List, ◌∷◌, ◌++◌, Float}
 use Rattle.sequence.specs.Answers.{Test, test, first_of}
-use Rattle.sequence.specs.Sheets.{Triplet, Laid, lays, short_list}
+use Rattle.sequence.specs.declared.Triplet.{Triplet}
+use Rattle.sequence.specs.Sheets.{Laid, lays, short_list}
 use Rattle.network.specs.Numbers.{Network}
 use Rattle.solution_check.specs.Tests.{counted, solution_tests}
 use Rattle.kkt.specs.Slots.{Rule}

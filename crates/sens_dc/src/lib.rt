@@ -2,9 +2,10 @@
 #![tactic(auto)]
 
 ghost use Rattle.std.specs.Prelude.{◌≡◌, []};
-ghost use Rattle.sequence.specs.Sheets.{laid, lays_if, room};
+ghost use Rattle.sequence.specs.Sheets.{lays_if, listed, room};
 ghost use Rattle.network.specs.Layout.{ReadingsLaid};
-ghost use Rattle.network.specs.Numbers.{lent, Wired, Termed};
+ghost use Rattle.network.specs.Numbers.{Wired, Termed};
+ghost use Rattle.network.specs.Sites.{network_in};
 ghost use Rattle.solution.specs.Sheet.{pieces, SheetLaid};
 ghost use Rattle.kkt.specs.Slots.Rule.{first_place};
 ghost use Rattle.kkt.specs.Matrix.{kkt_matrix_list};
@@ -12,10 +13,9 @@ ghost use Rattle.sens_dc.specs.Calls.{matrix_call};
 
 use kkt_laws::most;
 use kkt_list::put_kkt;
-use network::Counts;
-use network::layout::counts;
-use sequence::{Answer, room};
-use solution_check::solution_number;
+use network::{Counts, Lent};
+use sequence::{Answer, Refusal, room};
+use solution_check::accept_solution;
 
 // The list where the sheets, of which the shortest holds `cap`, hold it: counted first, then written.
 fn lay_counted(
@@ -35,7 +35,7 @@ fn lay_counted(
     requires termed { Termed c wiring.now term_index.now term_coefficient.now }
     requires sheet_laid { SheetLaid c (pieces c wiring.now) solution.now }
     requires cap_value { cap ≡ room rows.old cols.old values.old }
-    ensures { laid result.number result.count rows.new cols.new values.new ≡ lays_if (kkt_matrix_list first_place c wiring.now readings.now term_index.now term_coefficient.now solution.now) rows.old cols.old values.old }
+    ensures { listed result rows.new cols.new values.new ≡ lays_if (kkt_matrix_list first_place c wiring.now readings.now term_index.now term_coefficient.now solution.now) rows.old cols.old values.old }
 {
     let count = put_kkt(
         wiring,
@@ -50,10 +50,7 @@ fn lay_counted(
         0,
     );
     if cap < count {
-        return Answer {
-            number: 7,
-            count: 0,
-        };
+        return Err(Refusal::Short);
     }
     let done = put_kkt(
         wiring,
@@ -67,10 +64,7 @@ fn lay_counted(
         values,
         count,
     );
-    Answer {
-        number: 0,
-        count: done,
-    }
+    Ok(done)
 }
 
 // The same in one pass where the sheets hold the most triplets that the list can have.
@@ -89,7 +83,7 @@ pub fn lay_kkt(
     requires readings_laid { ReadingsLaid c readings.now }
     requires termed { Termed c wiring.now term_index.now term_coefficient.now }
     requires sheet_laid { SheetLaid c (pieces c wiring.now) solution.now }
-    ensures { laid result.number result.count rows.new cols.new values.new ≡ lays_if (kkt_matrix_list first_place c wiring.now readings.now term_index.now term_coefficient.now solution.now) rows.old cols.old values.old }
+    ensures { listed result rows.new cols.new values.new ≡ lays_if (kkt_matrix_list first_place c wiring.now readings.now term_index.now term_coefficient.now solution.now) rows.old cols.old values.old }
 {
     let cap = room(rows, cols, values);
     let bound = most(c);
@@ -106,7 +100,7 @@ pub fn lay_kkt(
             values,
             bound,
         );
-        return Answer { number: 0, count };
+        return Ok(count);
     }
     lay_counted(
         wiring,
@@ -124,35 +118,22 @@ pub fn lay_kkt(
 
 // The KKT matrix of a network at its solution sheet, snapped, as triplets in the original's order.
 pub fn kkt_triplets(
-    wiring: &[u32],
-    readings: &[f64],
-    term_index: &[u32],
-    term_coefficient: &[f64],
+    lent: Lent<'_>,
     solution: &[f64],
     rows: &mut [u32],
     cols: &mut [u32],
     values: &mut [f64],
 ) -> Answer
-    ensures { laid result.number result.count rows.new cols.new values.new ≡ matrix_call first_place [] (lent wiring.entry readings.entry term_index.entry term_coefficient.entry) solution.now rows.old cols.old values.old }
+    ensures { listed result rows.new cols.new values.new ≡ matrix_call first_place [] (network_in lent.entry) solution.now rows.old cols.old values.old }
 {
-    let number = solution_number(
-        wiring,
-        readings,
-        term_index,
-        term_coefficient,
-        solution,
-        false,
-    );
-    if number != 0 {
-        return Answer { number, count: 0 };
-    }
+    let site = accept_solution(lent, solution, false)?;
     lay_kkt(
-        wiring,
-        readings,
-        term_index,
-        term_coefficient,
+        site.wiring,
+        site.readings,
+        site.term_index,
+        site.term_coefficient,
         solution,
-        counts(wiring),
+        site.counts,
         rows,
         cols,
         values,

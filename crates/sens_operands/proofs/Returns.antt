@@ -1,17 +1,22 @@
 -- What the selector's parts and the returns of `operand_selector` come to.
--- Main results: `put_all`, `short_is`, `room_of`; `lay_short`, `lay_done`; `selector_refused`, `selector_unknown`, `selector_served`. Assumes nothing.
+-- Main results: `put_all`, `short_is`, `room_of`, `few_elements`; `lay_short`, `lay_done`; `selector_refused`, `selector_unknown`, `selector_served`. Assumes nothing.
 use mathlib.Core.Path.{◌≡◌, refl, sym, ap, ◌∙◌}
 use mathlib.Core.Bool.{Bool, true, false, ◌||◌}
-use mathlib.Core.List.{List, [], ◌∷◌}
-use Prim.Native.Nat.{ℕ, ◌+◌, ◌≤◌}
+use mathlib.Core.List.{List, [], ◌∷◌, ◌++◌}
+use Prim.Native.Nat.{ℕ, zero, suc, ◌+◌, ◌≤◌}
+use native.Mathlib.Numerals.{add-one}
 use native.Mathlib.Omega.{arith}
 use lib.Dec.{ltb}
-use lib.ListN.{length}
+use lib.ListN.{length, set, take, drop, replicate}
+use lib.Seq.{length-take-le}
+use Rattle.std.proofs.lemmas.List.{length-replicate, replicate_more}
 use lib.Ieee.{Float}
+use Rattle.std.specs.Prelude.{Option, Some, None}
 use borrow.Author.Tests.{ltb-false, ne_eqb}
 use Rattle.float64.specs.Values.{one}
 use Rattle.sequence.specs.Lists.{made, front}
 use Rattle.sequence.proofs.Lists.{made_length, or_none}
+use Rattle.sequence.proofs.Fronts.{one_front}
 use Rattle.sequence.proofs.Answers.{no_test, passed, holding}
 use Rattle.interface.specs.declared.Operand.{Operand}
 use Rattle.network.specs.declared.Counts.{Counts}
@@ -19,25 +24,25 @@ use Rattle.network.specs.Layout.{Few}
 use Rattle.network.specs.Numbers.{Network, network_number}
 use Rattle.model.proofs.Calls.{network_stands, network_passes}
 use Rattle.solution_check.specs.Tests.{counted}
-use Rattle.kkt_index.specs.declared.Block.{Block}
-use Rattle.kkt_index.specs.Index.{block_start}
 use Rattle.sens_operands.specs.declared.Reported.{Reported}
 use Rattle.sens_operands.specs.declared.Reported.TheVariants as reported
-use Rattle.sens_operands.specs.declared.ServedOperand.{ServedOperand}
-use Rattle.sens_operands.specs.declared.ServedOperand.TheVariants.{Known, Unknown}
 use Rattle.sens_operands.specs.Calls.{served_of, elements, Selection, selection, unit_rows, start_of, selector_of, short_of, fronts, selected, served_laid, own_tests, selector_number, laid, selector_call}
 
-pub start_is : (c : Counts) {p p' l l' : ℕ} {b b' : Block} → p ≡ p' → l ≡ l' → b ≡ b' → block_start c p l b ≡ block_start c p' l' b'
-start_is c e f g = rw (e, f, g)
-
-one_made : made (λ i. one) 1 ≡ one ∷ []
+-- n equal words, as a loop makes them
+made_equal : {A : Type 0} (n : ℕ) (v : A) → made (λ i. v) n ≡ replicate n v
 unfolding made
-one_made = refl
+made_equal zero v = refl
+made_equal (suc n) v = ap (λ (l : List _). l ++ v ∷ []) (made_equal n v) ∙ replicate_more n v ∙ rw add-one
 
-pub put_all : (s : List Float) (k r : List ℕ) (w : List Float) {s' w' : List Float} {k' r' : List ℕ} (start n : ℕ)
-    → s' ≡ front (made (λ i. one) 1) s → k' ≡ front (made (λ i. 1) n) k → r' ≡ front (made (λ i. start + i) n) r → w' ≡ front (made (λ i. one) n) w
-    → selection s' k' r' w' ≡ fronts (unit_rows start n) (selection s k r w)
-put_all s k r w start n e f g h = rw (e ∙ ap (λ (l : List Float). front l s) one_made, f, g, h)
+-- a sheet whose first n words were filled
+filled : {A : Type 0} {new : List A} (xs : List A) (n : ℕ) (v : A) → n ≤ length xs → new ≡ replicate (length (take n xs)) v → new ++ drop n xs ≡ front (made (λ i. v) n) xs
+unfolding front
+filled xs n v h e = rw (e, made_equal n v, length-replicate, length-take-le n xs h)
+
+pub put_all : (s : List Float) (k r : List ℕ) (w : List Float) {k' r' : List ℕ} {w' : List Float} (start n : ℕ) → 1 ≤ length s → n ≤ length k → n ≤ length w
+    → k' ≡ replicate (length (take n k)) 1 → r' ≡ front (made (λ i. start + i) n) r → w' ≡ replicate (length (take n w)) one
+    → selection (set s 0 one) (k' ++ drop n k) r' (w' ++ drop n w) ≡ fronts (unit_rows start n) (selection s k r w)
+put_all s k r w start n a b d f g h = rw (one_front one s a, filled k n 1 b f, g, filled w n one d h)
 
 -- ---- room
 
@@ -85,19 +90,19 @@ module _ (N : Network) (o : Operand) (S : Selection) {n : ℕ} (e : n ≡ networ
   unfolding selector_number laid network_number
   selector_refused h = go (served_of o)
     where
-      go : (x : ServedOperand) → selected n 0 S ≡ laid (selector_number N x S) (counted N) N.wiring N.readings x S
-      go (Known k) = rw (network_stands N true true (own_tests (counted N) N.wiring N.readings (Known k) S) e h, ne_eqb n 0 h)
-      go Unknown = rw (network_stands N true true (own_tests (counted N) N.wiring N.readings Unknown S) e h)
+      go : (x : Option Reported) → selected n 0 S ≡ laid (selector_number N x S) (counted N) N.wiring N.readings x S
+      go (Some k) = rw (network_stands N true true (own_tests (counted N) N.wiring N.readings (Some k) S) e h, ne_eqb n 0 h)
+      go None = rw (network_stands N true true (own_tests (counted N) N.wiring N.readings None S) e h)
 
-  pub selector_unknown : n ≡ 0 → served_of o ≡ Unknown → selected 4 0 S ≡ selector_call N o S
+  pub selector_unknown : n ≡ 0 → served_of o ≡ None → selected 4 0 S ≡ selector_call N o S
   unfolding selector_number laid network_number
   selector_unknown z q =
-      rw q (ap (λ (m : ℕ). selected m 0 S) (sym (network_passes N true true (own_tests (counted N) N.wiring N.readings Unknown S) e z ∙ holding 4 true [] refl)))
+      rw q (ap (λ (m : ℕ). selected m 0 S) (sym (network_passes N true true (own_tests (counted N) N.wiring N.readings None S) e z ∙ holding 4 true [] refl)))
 
-  pub selector_served : n ≡ 0 → (k : Reported) → served_of o ≡ Known k → served_laid (counted N) N.wiring N.readings k S ≡ selector_call N o S
+  pub selector_served : n ≡ 0 → (k : Reported) → served_of o ≡ Some k → served_laid (counted N) N.wiring N.readings k S ≡ selector_call N o S
   unfolding selector_number laid network_number served_laid
   selector_served z k q = rw q (go (short_of (selector_of (counted N) N.wiring N.readings k) S) refl)
     where
-      go : (b : Bool) → short_of (selector_of (counted N) N.wiring N.readings k) S ≡ b → served_laid (counted N) N.wiring N.readings k S ≡ laid (selector_number N (Known k) S) (counted N) N.wiring N.readings (Known k) S
-      go true f = rw (network_passes N true true (own_tests (counted N) N.wiring N.readings (Known k) S) e z ∙ holding 7 (short_of (selector_of (counted N) N.wiring N.readings k) S) [] f, f)
-      go false f = rw (network_passes N true true (own_tests (counted N) N.wiring N.readings (Known k) S) e z ∙ passed 7 (short_of (selector_of (counted N) N.wiring N.readings k) S) [] f ∙ no_test, f)
+      go : (b : Bool) → short_of (selector_of (counted N) N.wiring N.readings k) S ≡ b → served_laid (counted N) N.wiring N.readings k S ≡ laid (selector_number N (Some k) S) (counted N) N.wiring N.readings (Some k) S
+      go true f = rw (network_passes N true true (own_tests (counted N) N.wiring N.readings (Some k) S) e z ∙ holding 7 (short_of (selector_of (counted N) N.wiring N.readings k) S) [] f, f)
+      go false f = rw (network_passes N true true (own_tests (counted N) N.wiring N.readings (Some k) S) e z ∙ passed 7 (short_of (selector_of (counted N) N.wiring N.readings k) S) [] f ∙ no_test, f)

@@ -1,6 +1,6 @@
 -- sens/dc.rs's `operand_selector` as a call: for each element of an operand the one row of the system that it reads, with weight 1.
 -- Main definitions: `served_of`, `selection`, `selector_call`. Assumes nothing.
-use Rattle.std.specs.Prelude.{ℕ, ◌+◌, Bool, true, cond, ◌||◌, List, [], ◌∷◌, ◌++◌, eqb, Float}
+use Rattle.std.specs.Prelude.{ℕ, ◌+◌, Bool, true, cond, ◌||◌, List, [], ◌∷◌, ◌++◌, eqb, Option, Some, None, Float}
 use Rattle.float64.specs.Values.{one}
 use Rattle.sequence.specs.Lists.{made, front}
 use Rattle.sequence.specs.Answers.{Test, test, first_of, short}
@@ -21,35 +21,33 @@ use Rattle.kkt_index.specs.declared.Block.TheVariants as blocks
 use Rattle.kkt_index.specs.Index.{linear_row_count, block_start}
 use Rattle.sens_operands.specs.declared.Reported.{Reported}
 use Rattle.sens_operands.specs.declared.Reported.TheVariants as reported
-use Rattle.sens_operands.specs.declared.ServedOperand.{ServedOperand}
-use Rattle.sens_operands.specs.declared.ServedOperand.TheVariants.{Known, Unknown}
 
 -- ---- "active price, active dispatch, active flow at the from end, angle"
 
-abbrev pub price_of : Power → ServedOperand
-price_of Active = Known reported.Price
-price_of Reactive = Unknown
+abbrev pub price_of : Power → Option Reported
+price_of Active = Some reported.Price
+price_of Reactive = None
 
-abbrev pub dispatch_of : Power → ServedOperand
-dispatch_of Active = Known reported.Dispatch
-dispatch_of Reactive = Unknown
+abbrev pub dispatch_of : Power → Option Reported
+dispatch_of Active = Some reported.Dispatch
+dispatch_of Reactive = None
 
-abbrev pub end_of : End → ServedOperand
-end_of From = Known reported.Flow
-end_of To = Unknown
+abbrev pub end_of : End → Option Reported
+end_of From = Some reported.Flow
+end_of To = None
 
-abbrev pub flow_of : Power → End → ServedOperand
+abbrev pub flow_of : Power → End → Option Reported
 flow_of Active e = end_of e
-flow_of Reactive e = Unknown
+flow_of Reactive e = None
 
-abbrev pub voltage_of : VoltageKind → ServedOperand
-voltage_of voltages.Magnitude = Unknown
-voltage_of voltages.Angle = Known reported.Angle
-voltage_of voltages.Squared = Unknown
-voltage_of voltages.ProductReal = Unknown
-voltage_of voltages.ProductImag = Unknown
+abbrev pub voltage_of : VoltageKind → Option Reported
+voltage_of voltages.Magnitude = None
+voltage_of voltages.Angle = Some reported.Angle
+voltage_of voltages.Squared = None
+voltage_of voltages.ProductReal = None
+voltage_of voltages.ProductImag = None
 
-abbrev pub served_of : Operand → ServedOperand
+abbrev pub served_of : Operand → Option Reported
 served_of (Price p) = price_of p
 served_of (Dispatch p) = dispatch_of p
 served_of (Flow p e) = flow_of p e
@@ -112,17 +110,17 @@ unfoldable pub served_laid : Counts → List ℕ → List Float → Reported →
 served_laid c w r k s = cond (short_of (selector_of c w r k) s) (selected 7 0 s) (selected 0 (elements c k) (fronts (selector_of c w r k) s))
 
 -- "4: operand not served"; "7: a lent output shorter than the result"
-abbrev pub own_tests : Counts → List ℕ → List Float → ServedOperand → Selection → List Test
-own_tests c w r (Known k) s = test 7 (short_of (selector_of c w r k) s) ∷ []
-own_tests c w r Unknown s = test 4 true ∷ []
+abbrev pub own_tests : Counts → List ℕ → List Float → Option Reported → Selection → List Test
+own_tests c w r (Some k) s = test 7 (short_of (selector_of c w r k) s) ∷ []
+own_tests c w r None s = test 4 true ∷ []
 
-unfoldable pub selector_number : Network → ServedOperand → Selection → ℕ
+unfoldable pub selector_number : Network → Option Reported → Selection → ℕ
 selector_number N k s = first_of (network_tests N true true ++ own_tests (counted N) N.wiring N.readings k s)
 
 -- on 0 the selector is in front of the sheets, and the count is of entries; else nothing moves
-unfoldable pub laid : ℕ → Counts → List ℕ → List Float → ServedOperand → Selection → Selected
-laid number c w r (Known k) s = cond (eqb number 0) (selected 0 (elements c k) (fronts (selector_of c w r k) s)) (selected number 0 s)
-laid number c w r Unknown s = selected number 0 s
+unfoldable pub laid : ℕ → Counts → List ℕ → List Float → Option Reported → Selection → Selected
+laid number c w r (Some k) s = cond (eqb number 0) (selected 0 (elements c k) (fronts (selector_of c w r k) s)) (selected number 0 s)
+laid number c w r None s = selected number 0 s
 
 abbrev pub selector_call : Network → Operand → Selection → Selected
 selector_call N o s = laid (selector_number N (served_of o) s) (counted N) N.wiring N.readings (served_of o) s

@@ -1,16 +1,13 @@
--- Tests over a list of columns, one turn after the other, and of room by a quotient.
--- Main results: `some_none`, `some_more`; `same_test`, `positive`; `columns_at`, `number_5` to `number_cost`. Assumes nothing.
-use mathlib.Core.Path.{◌≡◌, refl, sym, subst, ◌∙◌}
+-- Tests over a list of columns, one turn after the other.
+-- Main results: `some_none`, `some_more`; `columns_at`, `cost_below`, `number_5` to `number_cost`. Assumes nothing.
+use mathlib.Core.Path.{◌≡◌, refl, sym, subst}
 use mathlib.Core.Bool.{Bool, true, false}
 use mathlib.Core.List.{List}
-use mathlib.Core.Logic.{◌↔◌}
-use Prim.Native.Nat.{ℕ, ◌+◌, ◌≤◌, ◌<◌}
+use Prim.Native.Nat.{ℕ, ◌+◌, ◌<◌}
 use native.Mathlib.Numerals.{add-one}
-use native.Mathlib.Decide.{dec_lt}
-use native.Mathlib.Omega.{arith}
 use lib.Dec.{T, ltb}
 use lib.ListN.{length, get_or}
-use borrow.Author.Tests.{lt-ltb, le-ltb, ltb-true}
+use borrow.Author.Tests.{ltb-true}
 use Rattle.sequence.specs.Lists.{some}
 use Rattle.sequence.specs.Answers.{first_of}
 use Rattle.sequence.proofs.Lists.{every_at}
@@ -27,20 +24,6 @@ some_none test = refl
 pub some_more : (test : ℕ → Bool) (i : ℕ) → some test i ≡ false → test i ≡ false → some test (i + 1) ≡ false
 unfolding some
 some_more test i e h = rw (add-one, e, h)
-
-over : (x y : ℕ) → (x < y → ⊥) → y ≤ x
-over x y f = omega arith
-
--- two orders that hold together are one test
-pub same_test : {a b c d : ℕ} → (a < b) ↔ (c < d) → ltb a b ≡ ltb c d
-same_test {a} {b} {c} {d} h = go (dec_lt a b)
-  where
-    go : Dec (a < b) → ltb a b ≡ ltb c d
-    go (yes l) = lt-ltb a b l ∙ sym (lt-ltb c d (h.0 l))
-    go (no l) = le-ltb a b (omega arith) ∙ sym (le-ltb c d (over c d (λ m. l (h.1 m))))
-
-pub positive : {n : ℕ} → (n ≡ 0 → ⊥) → 0 < n
-positive h = omega arith
 
 -- ---- the columns' number
 

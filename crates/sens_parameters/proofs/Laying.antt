@@ -1,7 +1,7 @@
 -- What the columns are laid with: the system's index, the flows' duals, and how long all of them are.
 -- Main results: `indexes_of_lem`, `flows_of`, `jacobian_long`, `laid_short`, `laid_done`. Assumes nothing.
-use mathlib.Core.Path.{◌≡◌, refl, sym, ap, subst, ◌∙◌}
-use mathlib.Core.Bool.{Bool, true, false, cond, not}
+use mathlib.Core.Path.{◌≡◌, sym, ap, subst, ◌∙◌}
+use mathlib.Core.Bool.{Bool, true, false}
 use mathlib.Core.List.{List}
 use Prim.Native.Nat.{ℕ, zero, suc, ◌*◌, ◌≤◌}
 use native.Mathlib.Nat.{zero-mul, suc-mul}
@@ -9,7 +9,7 @@ use lib.Dec.{ltb}
 use lib.ListN.{length, get_or, length-append}
 use lib.Ieee.{Float, nan}
 use Rattle.sequence.specs.Lists.{each, front}
-use Rattle.sequence.specs.Answers.{short}
+use Rattle.sequence.specs.Answers.{short, filled}
 use Rattle.sequence.proofs.Fronts.{front_at}
 use Rattle.network.specs.declared.Counts.{Counts}
 use Rattle.network.specs.Layout.{Few}
@@ -20,6 +20,7 @@ use Rattle.snapping.specs.Snap.{nu_flow, nu_flow_sheet}
 use Rattle.parameter_column.specs.declared.Served.{Served}
 use Rattle.parameter_column.specs.Columns.{column_words}
 use Rattle.parameter_sheet.specs.Sheet.{jacobian, Flows, Indexes}
+use Rattle.sens_parameters.specs.Calls.{columns_filled, columns_laid}
 use Rattle.parameter_sheet.proofs.Filling.{column_long}
 
 pub indexes_of_lem : {c : Counts} {w : List ℕ} {r : List Float} {p l : ℕ} {x : KktIdx} → Indexed c p l x → Few c → p ≤ c.generators → l ≡ linear_row_count c w r → Indexes c w r x
@@ -49,10 +50,11 @@ module _ (c : Counts) (w ti : List ℕ) (tc : List Float) (r s : List Float) (x 
   short_is : (sheet : List Float) {b : Bool} → b ≡ ltb (length sheet) (length is * x.dim) → b ≡ short (jacobian c w ti tc x.pieces r s k is) sheet
   short_is sheet e = e ∙ rw jacobian_long
 
-  pub laid_short : (sheet : List Float) {b : Bool} → b ≡ ltb (length sheet) (length is * x.dim) → b ≡ true
-      → (false ≡ not (short (jacobian c w ti tc x.pieces r s k is) sheet)) × (sheet ≡ cond false (front (jacobian c w ti tc x.pieces r s k is) sheet) sheet)
-  laid_short sheet e t = (rw (← (short_is sheet e), t), refl)
+  pub laid_short : (sheet : List Float) {b : Bool} → b ≡ ltb (length sheet) (length is * x.dim) → b ≡ true → filled 7 0 sheet ≡ columns_laid is (jacobian c w ti tc x.pieces r s k is) sheet
+  unfolding columns_filled
+  laid_short sheet e t = rw (sym (short_is sheet e) ∙ t)
 
   pub laid_done : (sheet : List Float) {new : List Float} {b : Bool} → b ≡ ltb (length sheet) (length is * x.dim) → b ≡ false → new ≡ front (jacobian c w ti tc x.pieces r s k is) sheet
-      → (true ≡ not (short (jacobian c w ti tc x.pieces r s k is) sheet)) × (new ≡ cond true (front (jacobian c w ti tc x.pieces r s k is) sheet) sheet)
-  laid_done sheet e t q = (rw (← (short_is sheet e), t), q)
+      → filled 0 (length is) new ≡ columns_laid is (jacobian c w ti tc x.pieces r s k is) sheet
+  unfolding columns_filled
+  laid_done sheet e t q = rw (q, sym (short_is sheet e) ∙ t)

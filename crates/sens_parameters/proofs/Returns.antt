@@ -1,14 +1,14 @@
 -- The returns of `parameter_jacobian`, one law for each.
--- Main results: `served_refused`, `served_short`, `served_done`; `jacobian_refused`, `jacobian_served`, `jacobian_unknown`. Assumes nothing.
-use mathlib.Core.Path.{◌≡◌, refl, sym, ap, ◌∙◌}
-use mathlib.Core.Bool.{Bool, true, false, cond, not, ◌&&◌}
+-- Main results: `served_refused`, `served_laid`; `jacobian_refused`, `jacobian_served`, `jacobian_empty`, `jacobian_unknown`. Assumes nothing.
+use mathlib.Core.Path.{◌≡◌, sym, ap, ◌∙◌}
+use mathlib.Core.Bool.{false, not, ◌&&◌}
 use mathlib.Core.List.{List, [], ◌∷◌}
 use Prim.Native.Nat.{ℕ}
 use native.Mathlib.Omega.{arith}
-use native.Mathlib.Decide.{ℕ_discrete}
 use lib.Dec.{eqb}
 use lib.ListN.{length}
 use lib.Ieee.{Float}
+use Rattle.std.specs.Prelude.{Some, None}
 use borrow.Author.Tests.{eq-eqb, ne_eqb}
 use Rattle.sequence.specs.Lists.{front}
 use Rattle.sequence.specs.Answers.{Test, test, first_of, marked, short, filled}
@@ -21,8 +21,7 @@ use Rattle.solution_check.specs.Tests.{counted, solution_long, solution_holds, s
 use Rattle.interface.specs.declared.Parameter.{Parameter}
 use Rattle.parameter_column.specs.declared.Served.{Served}
 use Rattle.parameter_sheet.specs.Sheet.{jacobian}
-use Rattle.sens_parameters.specs.declared.ServedParameter.TheVariants.{Known, Unknown}
-use Rattle.sens_parameters.specs.Calls.{served_of, columns_hold, is_cost, some_piecewise, columns_number, columns_of, result_of, own_tests, jacobian_number, served_number, columns_filled, jacobian_call}
+use Rattle.sens_parameters.specs.Calls.{served_of, columns_hold, is_cost, some_piecewise, columns_number, columns_of, result_of, own_tests, jacobian_number, served_number, columns_filled, columns_laid, jacobian_call}
 
 refused : {number k : ℕ} (is : List ℕ) (result sheet : List Float) → number ≡ k → (k ≡ 0 → ⊥) → filled k 0 sheet ≡ columns_filled number is result sheet
 unfolding columns_filled
@@ -49,25 +48,9 @@ module _ (c : Counts) (w ti : List ℕ) (tc : List Float) (r s : List Float) (k 
   unfolding served_number columns_number marked
   passes z = first_passes first (test 7 (short result sheet) ∷ []) tt (sym e ∙ z)
 
-  pub served_short : {b : Bool} {new : List Float} → n ≡ 0 → b ≡ not (short result sheet) → b ≡ false → new ≡ cond b (front result sheet) sheet
-      → filled 7 0 new ≡ columns_filled (served_number c w ti tc r s k is sheet) is result sheet
-  served_short z f g h =
-      ap (λ (y : List Float). filled 7 0 y) (h ∙ ap (λ (x : Bool). cond x (front result sheet) sheet) g)
-      ∙ refused is result sheet (passes z ∙ holding 7 (short result sheet) [] (turned (short result sheet) (sym f ∙ g))) (λ y. absurd (omega arith))
-    where
-      turned : (x : Bool) → not x ≡ false → x ≡ true
-      turned true q = refl
-      turned false q = sym q
-
-  pub served_done : {b : Bool} {new : List Float} → n ≡ 0 → b ≡ not (short result sheet) → b ≡ true → new ≡ cond b (front result sheet) sheet
-      → filled 0 (length is) new ≡ columns_filled (served_number c w ti tc r s k is sheet) is result sheet
-  served_done z f g h =
-      ap (λ (y : List Float). filled 0 (length is) y) (h ∙ ap (λ (x : Bool). cond x (front result sheet) sheet) g)
-      ∙ done is result sheet (passes z ∙ passed 7 (short result sheet) [] (turned (short result sheet) (sym f ∙ g)) ∙ no_test)
-    where
-      turned : (x : Bool) → not x ≡ true → x ≡ false
-      turned true q = sym q
-      turned false q = refl
+  pub served_laid : n ≡ 0 → columns_laid is result sheet ≡ columns_filled (served_number c w ti tc r s k is sheet) is result sheet
+  unfolding first_of
+  served_laid z = ap (λ (m : ℕ). columns_filled m is result sheet) (sym (passes z))
 
 -- ---- the call
 
@@ -76,26 +59,23 @@ module _ (N : Network) (s : List Float) (p : Parameter) (is : List ℕ) (sheet :
   unfolding jacobian_number
   jacobian_refused h = refused is (result_of N s (served_of p) is) sheet (network_stands N (solution_long N s) (solution_holds false N s) (own_tests N s (served_of p) is sheet) e h) h
 
-  pub jacobian_served : n ≡ 0 → (k : Served) → served_of p ≡ Known k
+  pub jacobian_served : n ≡ 0 → (k : Served) → served_of p ≡ Some k
       → columns_filled (served_number (counted N) N.wiring N.indexes N.coefficients N.readings s k is sheet) is (columns_of N s k is) sheet ≡ jacobian_call N s p is sheet
   unfolding jacobian_number served_number
   jacobian_served z k q =
-      rw q (ap (λ (m : ℕ). columns_filled m is (columns_of N s k is) sheet) (sym (network_passes N (solution_long N s) (solution_holds false N s) (own_tests N s (Known k) is sheet) e z)))
+      rw q (ap (λ (m : ℕ). columns_filled m is (columns_of N s k is) sheet) (sym (network_passes N (solution_long N s) (solution_holds false N s) (own_tests N s (Some k) is sheet) e z)))
 
-  pub jacobian_unknown : {b : ℕ} → n ≡ 0 → served_of p ≡ Unknown → b ≡ cond (not (eqb (length is) 0)) 4 0 → filled b 0 sheet ≡ jacobian_call N s p is sheet
-  unfolding jacobian_number front
-  jacobian_unknown {b} z q f = rw q (go (ℕ_discrete (length is) 0))
-    where
-      none : jacobian_number N s Unknown is sheet ≡ first_of (test 4 (not (eqb (length is) 0)) ∷ [])
-      none = network_passes N (solution_long N s) (solution_holds false N s) (own_tests N s Unknown is sheet) e z
+  none : n ≡ 0 → jacobian_number N s None is sheet ≡ first_of (test 4 (not (eqb (length is) 0)) ∷ [])
+  unfolding jacobian_number
+  none z = network_passes N (solution_long N s) (solution_holds false N s) (own_tests N s None is sheet) e z
 
-      go : Dec (length is ≡ 0) → filled b 0 sheet ≡ columns_filled (jacobian_number N s Unknown is sheet) is [] sheet
-      go (yes l) =
-          let g : ◌≡◌ {A = ℕ} (cond (not (eqb (length is) 0)) 4 0) 0 = rw (eq-eqb (length is) 0 l) in
-          ap (λ (m : ℕ). filled m 0 sheet) (f ∙ g)
-          ∙ ap (λ (m : ℕ). filled 0 m sheet) (sym l)
-          ∙ done is [] sheet (none ∙ passed 4 (not (eqb (length is) 0)) [] (rw (eq-eqb (length is) 0 l)) ∙ no_test)
-      go (no l) =
-          let g : ◌≡◌ {A = ℕ} (cond (not (eqb (length is) 0)) 4 0) 4 = rw (ne_eqb (length is) 0 l) in
-          ap (λ (m : ℕ). filled m 0 sheet) (f ∙ g)
-          ∙ refused is [] sheet (none ∙ holding 4 (not (eqb (length is) 0)) [] (rw (ne_eqb (length is) 0 l))) (λ y. absurd (omega arith))
+  pub jacobian_empty : n ≡ 0 → served_of p ≡ None → length is ≡ 0 → filled 0 0 sheet ≡ jacobian_call N s p is sheet
+  unfolding front
+  jacobian_empty z q l =
+      rw q
+      (ap (λ (m : ℕ). filled 0 m sheet) (sym l)
+      ∙ done is [] sheet (none z ∙ passed 4 (not (eqb (length is) 0)) [] (rw (eq-eqb (length is) 0 l)) ∙ no_test))
+
+  pub jacobian_unknown : n ≡ 0 → served_of p ≡ None → (length is ≡ 0 → ⊥) → filled 4 0 sheet ≡ jacobian_call N s p is sheet
+  jacobian_unknown z q l =
+      rw q (refused is [] sheet (none z ∙ holding 4 (not (eqb (length is) 0)) [] (rw (ne_eqb (length is) 0 l))) (λ y. absurd (omega arith)))

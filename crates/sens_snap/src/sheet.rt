@@ -1,11 +1,11 @@
 // The snapped sheet, entry by entry.
-ghost use Rattle.std.specs.Prelude.{◌≡◌, ◌+◌, ◌<◌, ◌≤◌, length, get_or, eqb};
+ghost use Rattle.std.specs.Prelude.{◌≡◌, ◌+◌, ◌<◌, ◌≤◌, length, get_or};
 ghost use Rattle.std.proofs.lemmas.List.Edits.{sets};
 ghost use Rattle.sequence.specs.Lists.{each, front};
 ghost use Rattle.network.specs.Layout.{ReadingsLaid, segments_at, segment_start};
 ghost use Rattle.network.specs.Numbers.{Wired};
 ghost use Rattle.solution.specs.declared.Entry.TheVariants.{Va};
-ghost use Rattle.solution.specs.Sheet.{entries, rank, size, pieces, piece_rank, sheet_length, SheetLaid};
+ghost use Rattle.solution.specs.Sheet.{entries, size, pieces, piece_rank, sheet_length, SheetLaid};
 ghost use Rattle.snapping.specs.Snap.{segment_words, plain_words, entry_words, snap_sheet};
 
 use network::layout::word;
@@ -101,32 +101,6 @@ fn put_segment_duals(
     }
 }
 
-// Whether an entry is the segment duals'.
-fn is_segment_dual(e: Entry) -> bool
-    ensures { result ≡ eqb (rank e) 14 }
-{
-    match e {
-        Entry::Va => false,
-        Entry::Pg => false,
-        Entry::Flow => false,
-        Entry::Psh => false,
-        Entry::NuBal => false,
-        Entry::LamUb => false,
-        Entry::LamLb => false,
-        Entry::RhoUb => false,
-        Entry::RhoLb => false,
-        Entry::MuUb => false,
-        Entry::MuLb => false,
-        Entry::GammaUb => false,
-        Entry::GammaLb => false,
-        Entry::Epigraph => false,
-        Entry::SegmentDual => true,
-        Entry::LinearDual => false,
-        Entry::LinearValue => false,
-        Entry::Objective => false,
-    }
-}
-
 // An entry's words from a place on.
 fn put_entry(
     wiring: &[u32],
@@ -144,11 +118,10 @@ fn put_entry(
     requires p_value { (p ≡ pieces c wiring.now) × (at + size c p e ≤ length out.old) × (at < 0x1_0000) }
     ensures { out.new ≡ sets out.old at (entry_words c wiring.now p readings.now sheet.now e) }
 {
-    if is_segment_dual(e) {
-        put_segment_duals(wiring, readings, sheet, c, p, out, at);
-        return;
+    match e {
+        Entry::SegmentDual => put_segment_duals(wiring, readings, sheet, c, p, out, at),
+        _ => put_words(wiring, readings, sheet, c, p, e, out, at),
     }
-    put_words(wiring, readings, sheet, c, p, e, out, at);
 }
 
 // The entries, in the sheet's order.
@@ -173,13 +146,6 @@ const ENTRIES: [Entry; 18] = [
     Entry::Objective,
 ];
 
-fn entry_at(k: usize) -> Entry
-    requires { k < 18 }
-    ensures { result ≡ get_or entries k Va }
-{
-    ENTRIES[k]
-}
-
 // The whole snapped sheet into the front of another.
 pub fn snap_into(
     wiring: &[u32],
@@ -197,9 +163,8 @@ pub fn snap_into(
     ensures sheet_len { length (snap_sheet c wiring.now p readings.now sheet.now) ≡ sheet_length c p }
 {
     let mut at = 0;
-    for k in 0..18usize {
-        let e = entry_at(k);
-        put_entry(wiring, readings, sheet, c, p, e, out, at);
-        at += entry_size(c, p, e);
+    for e in &ENTRIES {
+        put_entry(wiring, readings, sheet, c, p, *e, out, at);
+        at += entry_size(c, p, *e);
     }
 }

@@ -4,11 +4,14 @@ use mathlib.Core.Bool.{Bool, true, false, cond, not, ◌&&◌}
 use mathlib.Core.List.{List, [], ◌∷◌, ◌++◌}
 use Prim.Native.Nat.{ℕ}
 use native.Mathlib.Decide.{ℕ_discrete}
+use native.Mathlib.Omega.{arith}
 use lib.ListN.{length}
 use lib.Dec.{T, eqb}
 use borrow.Author.Tests.{ne_eqb}
 use Rattle.sequence.specs.Lists.{front}
-use Rattle.sequence.specs.Answers.{Test, test, first_of, marked, filled, fills}
+use Rattle.sequence.specs.declared.Refusal.{Refusal}
+use Rattle.sequence.specs.declared.Refusal.TheVariants.{Size, Wiring, Reading, Kind, Element, Piecewise, Short}
+use Rattle.sequence.specs.Answers.{Test, test, first_of, marked, filled, fills, refusal_number}
 
 pub no_test : first_of [] ≡ 0
 unfolding first_of
@@ -75,3 +78,13 @@ fills_refused {k = k} result sheet e h = rw (e, ne_eqb k 0 h)
 pub fills_done : {A : Type 0} {number : ℕ} (result sheet : List A) → number ≡ 0 → filled 0 (length result) (front result sheet) ≡ fills number result sheet
 unfolding fills
 fills_done result sheet e = rw e
+
+-- no refusal has the number 0
+pub refused : (e : Refusal) → refusal_number e ≡ 0 → ⊥
+refused Size h = absurd (omega (arith, h))
+refused Wiring h = absurd (omega (arith, h))
+refused Reading h = absurd (omega (arith, h))
+refused Kind h = absurd (omega (arith, h))
+refused Element h = absurd (omega (arith, h))
+refused Piecewise h = absurd (omega (arith, h))
+refused Short h = absurd (omega (arith, h))

@@ -10,7 +10,8 @@ use lib.Dec.{eqb}
 use borrow.Author.Tests.{eq-eqb, ne_eqb}
 use Rattle.sequence.specs.Lists.{each, when}
 use Rattle.sequence.specs.Links.{First, Links}
-use Rattle.sequence.specs.Sheets.{Triplet, Sheets, Puts}
+use Rattle.sequence.specs.declared.Triplet.{Triplet}
+use Rattle.sequence.specs.Sheets.{Sheets, Puts}
 use Rattle.sequence.proofs.Lists.{each_skip, each_more, stored_at}
 use Rattle.sequence.proofs.Sheets.{none, then}
 

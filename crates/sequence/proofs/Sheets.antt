@@ -6,15 +6,16 @@ use native.Mathlib.Numerals.{add-one}
 use native.Mathlib.Nat.{le_antisymm, le_of_eq, add-suc, suc-add, zero-add}
 use native.Mathlib.Omega.{arith}
 use mathlib.Core.List.{List, [], ◌∷◌, ◌++◌}
-use mathlib.Core.Bool.{true, false}
+use mathlib.Core.Bool.{Bool, true, false}
 use lib.ListN.{length, set, length-map}
 use lib.Dec.{ltb}
 use lib.Ieee.{Float}
 use lib.Seq.{sets, sets-eq}
 use borrow.Author.Tests.{lt-ltb, le-ltb, ne_eqb}
-use Rattle.sequence.specs.declared.Item.{Item}
-use Rattle.sequence.specs.Lists.{each, front}
-use Rattle.sequence.specs.Sheets.{Triplet, emit, rows_of, cols_of, values_of, Sheets, sheets, put1, puts, Puts, Room, laid, lays, lays_if, room}
+use Rattle.std.specs.Prelude.{Option}
+use Rattle.sequence.specs.Lists.{each, front, when}
+use Rattle.sequence.specs.declared.Triplet.{Triplet}
+use Rattle.sequence.specs.Sheets.{triplet, item, emit, rows_of, cols_of, values_of, Sheets, sheets, put1, puts, Puts, Room, laid, lays, lays_if, room}
 use Rattle.sequence.proofs.Lists.{each_more}
 
 puts_append : (l : ℕ) (S : Sheets) (a b : List Triplet) → puts l S (a ++ b) ≡ puts l (puts l S a) b
@@ -47,8 +48,14 @@ more f e p q = rw (each_more f e) (then p q)
 pub done : {l : ℕ} {S₀ S₁ : Sheets} (f : ℕ → List Triplet) {e m : ℕ} → e ≤ m → m ≤ e → Puts l (each e f) S₀ S₁ → Puts l (each m f) S₀ S₁
 done f p q h = rw (le_antisymm p q) at h
 
+-- the list of an item: its triplet where it is meant
+pub emit_item : (b : Bool) (r c : ℕ) (v : Float) → emit (item b r c v) ≡ when b (triplet r c v ∷ [])
+unfolding emit when
+emit_item true r c v = refl
+emit_item false r c v = refl
+
 -- an item that was put is the item that the specification names
-pub put_of : {l : ℕ} {S₀ S₁ : Sheets} {t u : Item} → t ≡ u → Puts l (emit t) S₀ S₁ → Puts l (emit u) S₀ S₁
+pub put_of : {l : ℕ} {S₀ S₁ : Sheets} {t u : Option Triplet} → t ≡ u → Puts l (emit t) S₀ S₁ → Puts l (emit u) S₀ S₁
 put_of e p = rw e at p
 
 -- the sheets' room after a list was put

@@ -1,23 +1,22 @@
 -- A list of triplets in three lent sheets: rows, columns and values. Assumes nothing.
-use Rattle.std.specs.Prelude.{ℕ, ◌+◌, ◌≤◌, ◌<◌, min, Bool, cond, List, [], ◌∷◌, map, ◌≡◌, length, set, eqb, ltb, Float}
+use Rattle.std.specs.Prelude.{ℕ, ◌+◌, ◌≤◌, ◌<◌, min, Bool, cond, List, [], ◌∷◌, map, ◌≡◌, length, set, eqb, ltb, Float, Option, Some, None, Result}
 use Rattle.std.specs.Borrow.{MutBor}
-use Rattle.sequence.specs.declared.Item.{Item}
-use Rattle.sequence.specs.Lists.{front, when}
-
-pub record Triplet : Type 0 where
-  pub row : ℕ
-  pub col : ℕ
-  pub value : Float
+use Rattle.sequence.specs.declared.Refusal.{Refusal}
+use Rattle.sequence.specs.Answers.{number_of, count_of}
+use Rattle.sequence.specs.Lists.{front}
+use Rattle.sequence.specs.declared.Triplet.{Triplet}
 
 abbrev pub triplet : ℕ → ℕ → Float → Triplet
 triplet r c v = record { row = r; col = c; value = v }
 
-abbrev pub item : Bool → ℕ → ℕ → Float → Item
-item b r c v = record { keep = b; row = r; col = c; value = v }
+-- a triplet where it is meant at all
+abbrev pub item : Bool → ℕ → ℕ → Float → Option Triplet
+item b r c v = cond b (Some (triplet r c v)) None
 
--- one triplet, or none where the item is not kept
-unfoldable pub emit : Item → List Triplet
-emit t = when t.keep (triplet t.row t.col t.value ∷ [])
+-- the list of a triplet, or of none
+unfoldable pub emit : Option Triplet → List Triplet
+emit (Some t) = t ∷ []
+emit None = []
 
 abbrev pub rows_of : List Triplet → List ℕ
 rows_of ts = map (λ (t : Triplet). t.row) ts
@@ -99,3 +98,7 @@ lays number ts r c v =
 -- the list where the sheets hold it, and number 7 where they are short
 abbrev pub lays_if : List Triplet → List ℕ → List ℕ → List Float → Laid
 lays_if ts r c v = lays (cond (short_list ts r c v) 7 0) ts r c v
+
+-- number, count and sheets of a call that hands this back
+abbrev pub listed : Result ℕ Refusal → List ℕ → List ℕ → List Float → Laid
+listed a r c v = laid (number_of a) (count_of a) r c v

@@ -1,80 +1,96 @@
-// Triplets into three lent sheets, answers by number, and chains of equal keys.
+// Answers by number, triplets into three lent sheets, and chains of equal keys.
 #![tactic(auto)]
 
-ghost use Rattle.std.specs.Prelude.{◌≡◌, ◌&&◌, ℕ, ◌+◌, ◌<◌, ◌≤◌, min, length, get_or, set};
+ghost use Rattle.std.specs.Prelude.{◌≡◌, ◌+◌, ◌<◌, ◌≤◌, length, get_or, set};
+ghost use Rattle.sequence.specs.Answers.{refusal_number, number_of, count_of};
 ghost use Rattle.sequence.specs.Sheets.{emit, held, Puts, Room, room};
 
-// A call's answer: 0, or the number of its refusal, and how much it wrote.
-#[derive(Clone, Copy)]
-pub struct Answer {
-    pub number: u32,
-    pub count: usize,
+// Why a call refuses, in the order in which its tests are made; each has its place in that order as its number.
+#[derive(Clone, Copy, Debug, PartialEq, Eq)]
+pub enum Refusal {
+    // A count above its limit, or a slice of the wrong length.
+    Size = 1,
+    // An index, a flag or a mask outside its values.
+    Wiring = 2,
+    // A reading, a coefficient or a weight outside its limits.
+    Reading = 3,
+    // A kind that is not served.
+    Kind = 4,
+    // An element past the last.
+    Element = 5,
+    // A cost asked of a piecewise generator.
+    Piecewise = 6,
+    // A lent output shorter than the result.
+    Short = 7,
 }
 
-// A triplet by value, and whether it is meant at all.
-#[derive(Clone, Copy)]
-pub struct Item {
-    pub keep: bool,
+impl Refusal {
+    // The number by which other languages know it.
+    pub fn number(self) -> u32
+        ensures { result ≡ refusal_number self }
+    {
+        self as u32
+    }
+}
+
+// How much a call wrote, or why it refuses.
+pub type Answer = Result<usize, Refusal>;
+
+// A call's number: 0, or that of its refusal.
+pub fn number(answer: Answer) -> u32
+    ensures { result ≡ number_of answer }
+{
+    match answer {
+        Ok(_) => 0,
+        Err(refusal) => refusal.number(),
+    }
+}
+
+// A call's count: how much it wrote, and 0 where it refuses.
+pub fn count(answer: Answer) -> usize
+    ensures { result ≡ count_of answer }
+{
+    answer.unwrap_or(0)
+}
+
+// An entry of a matrix.
+#[derive(Clone, Copy, PartialEq)]
+pub struct Triplet {
     pub row: u32,
     pub col: u32,
     pub value: f64,
 }
 
-// One item: counted where it is kept, and stored where its place is below `limit` too. One walk is
-// so both the counting pass (limit 0) and the writing pass.
+// A triplet, or none: counted, and stored where its place is below `limit` too. One walk is so both the counting
+// pass (limit 0) and the writing pass.
 pub fn put(
     rows: &mut [u32],
     cols: &mut [u32],
     values: &mut [f64],
     limit: usize,
     at: usize,
-    t: Item,
+    triplet: Option<Triplet>,
 ) -> usize
     requires { Room limit (held rows cols values at) }
-    ensures puts { Puts limit (emit t) (held rows.entry cols.entry values.entry at) (held rows.exit cols.exit values.exit result) }
+    ensures puts { Puts limit (emit triplet) (held rows.entry cols.entry values.entry at) (held rows.exit cols.exit values.exit result) }
     ensures most { result ≤ at + 1 }
 {
-    if !t.keep {
+    let Some(t) = triplet else {
         return at;
-    }
+    };
     if at < limit {
         rows[at] = t.row;
         cols[at] = t.col;
         values[at] = t.value;
-        return at + 1;
     }
     at + 1
-}
-
-pub fn least(a: usize, b: usize) -> usize
-    ensures { result ≡ min a b }
-{
-    if a < b { a } else { b }
-}
-
-// Both of two tests, each of which has been made.
-pub fn both(a: bool, b: bool) -> bool
-    ensures { result ≡ a && b }
-{
-    if a { b } else { false }
 }
 
 // How many triplets the three sheets hold.
 pub fn room(rows: &[u32], cols: &[u32], values: &[f64]) -> usize
     ensures { result ≡ room rows.now cols.now values.now }
 {
-    least(rows.len(), least(cols.len(), values.len()))
-}
-
-// Each of the first b words is v.
-pub fn fill(head: &mut [u32], b: usize, v: u32)
-    requires { b ≤ length head.old }
-    ensures head_len_unchanged { length head.new ≡ length head.old }
-    ensures by_index { (j : ℕ) → j < b → get_or head.new j 0 ≡ v }
-{
-    for j in 0..b {
-        head[j] = v;
-    }
+    rows.len().min(cols.len().min(values.len()))
 }
 
 // Index i goes before the chain of its key.

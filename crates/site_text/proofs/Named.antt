@@ -1,15 +1,16 @@
 -- The triplets of three sheets that stand in a change's cells, one after the other, and those cells by the index.
--- Main results: `begin`, `turn`, `done`, `named_cells_lem`. Assumes nothing.
-use mathlib.Core.Path.{◌≡◌, refl, sym, ap}
+-- Main results: `begin`, `named_turn`, `other_turn`, `named_cells_lem`. Assumes nothing.
+use mathlib.Core.Path.{◌≡◌, refl, sym, ap, subst}
 use mathlib.Core.Bool.{Bool, true, false}
 use mathlib.Core.List.{List, [], ◌∷◌, ◌++◌, append-nil, append_assoc}
-use Prim.Native.Nat.{ℕ, zero, suc, ◌+◌, ◌≤◌, ◌<◌}
+use Prim.Native.Nat.{ℕ, zero, suc, ◌+◌, ◌<◌}
 use native.Mathlib.Numerals.{add-one}
 use native.Mathlib.Omega.{arith}
 use lib.ListN.{length, get_or, take}
 use lib.Ieee.{Float, nan}
 use Rattle.sequence.specs.Lists.{when}
-use Rattle.sequence.specs.Sheets.{Triplet, triplet}
+use Rattle.sequence.specs.declared.Triplet.{Triplet}
+use Rattle.sequence.specs.Sheets.{triplet}
 use Rattle.words.specs.Words.{joined}
 use Rattle.network.specs.declared.Counts.{Counts}
 use Rattle.solution.specs.Sheet.{pieces}
@@ -20,7 +21,8 @@ use Rattle.kkt_index.proofs.Starts.{starts}
 use Rattle.change_table.specs.Table.{Pair, Cell, field_of, cells_of, cells_at, named_cells, among}
 use Rattle.job_book.specs.Run.{triplets}
 use Rattle.site_text.specs.Text.{triplet_line, triplets_in}
-use Rattle.site_text.specs.Writing.{Wrote}
+use Rattle.site_text.specs.Writing.{Adds}
+use Rattle.site_text.specs.declared.buffer.Buffer.{Buffer}
 use Rattle.site_text.proofs.Writing.{none, then, told}
 
 joined_append : {A : Type 0} (g : A → List ℕ) (xs ys : List A) → joined g (xs ++ ys) ≡ joined g xs ++ joined g ys
@@ -48,9 +50,9 @@ module _ (cells : List Cell) (R C : List ℕ) (X : List Float) where
   abbrev pub lines_of : ℕ → List ℕ
   lines_of t = joined triplet_line (triplets_in cells (triplets (take t R) (take t C) (take t X)))
 
-  pub begin : (old : List ℕ) (at : ℕ) → Wrote (lines_of 0) old old at at
+  pub begin : (b : Buffer) → Adds (lines_of 0) b b
   unfolding joined triplets_in triplets
-  begin old at = none old at
+  begin b = none b
 
   lines_more : (t : ℕ) → t < length R → t < length C → t < length X
       → lines_of (t + 1) ≡ lines_of t ++ joined triplet_line (when (among (get_or R t 0, get_or C t 0) cells) (triplet (get_or R t 0) (get_or C t 0) (get_or X t nan) ∷ []))
@@ -58,26 +60,21 @@ module _ (cells : List Cell) (R C : List ℕ) (X : List Float) where
       rw (add-one, triplets_more R C X t a b d, in_more cells _ (triplet (get_or R t 0) (get_or C t 0) (get_or X t nan)))
       (joined_append triplet_line (triplets_in cells (triplets (take t R) (take t C) (take t X))) _)
 
-  pub turn : {old mid new : List ℕ} {at j k : ℕ} {named : Bool} (t : ℕ) → t < length R → t < length C → t < length X → Wrote (lines_of t) old mid at j
-      → named ≡ among (get_or R t 0, get_or C t 0) cells → Wrote (joined triplet_line (when named (triplet (get_or R t 0) (get_or C t 0) (get_or X t nan) ∷ []))) mid new j k
-      → Wrote (lines_of (t + 1)) old new at k
-  turn t a b d p e q =
-      told (sym (lines_more t a b d))
-      (then p (told (ap (λ (n : Bool). joined triplet_line (when n (triplet (get_or R t 0) (get_or C t 0) (get_or X t nan) ∷ []))) e) q))
+  module _ {a b d : Buffer} (t : ℕ) (f : t < length R) (g : t < length C) (h : t < length X) (p : Adds (lines_of t) a b) where
+    turn : {named : Bool} → named ≡ among (get_or R t 0, get_or C t 0) cells → Adds (joined triplet_line (when named (triplet (get_or R t 0) (get_or C t 0) (get_or X t nan) ∷ []))) b d
+        → Adds (lines_of (t + 1)) a d
+    turn e q =
+        told (sym (lines_more t f g h))
+        (then p (told (ap (λ (n : Bool). joined triplet_line (when n (triplet (get_or R t 0) (get_or C t 0) (get_or X t nan) ∷ []))) e) q))
 
-  pub done : {old new : List ℕ} {at k t n : ℕ} → t ≤ n → n ≤ t → Wrote (lines_of t) old new at k → Wrote (lines_of n) old new at k
-  done {t = t} {n = n} a b p =
-      let e : t ≡ n = omega arith in
-      rw e at p
+    -- a triplet that is in a cell, and one that is not
+    pub named_turn : true ≡ among (get_or R t 0, get_or C t 0) cells → Adds (triplet_line (triplet (get_or R t 0) (get_or C t 0) (get_or X t nan))) b d → Adds (lines_of (t + 1)) a d
+    unfolding joined when
+    named_turn e q = turn e (told (sym (append-nil _)) q)
 
--- a triplet that is in a cell, and one that is not
-pub one_line : (t : Triplet) {old new : List ℕ} {at k : ℕ} → Wrote (triplet_line t) old new at k → Wrote (joined triplet_line (when true (t ∷ []))) old new at k
-unfolding joined when
-one_line t p = told (sym (append-nil (triplet_line t))) p
-
-pub no_line : (t : Triplet) (old : List ℕ) (at : ℕ) → Wrote (joined triplet_line (when false (t ∷ []))) old old at at
-unfolding joined when
-no_line t old at = none old at
+    pub other_turn : false ≡ among (get_or R t 0, get_or C t 0) cells → b ≡ d → Adds (lines_of (t + 1)) a d
+    unfolding joined when
+    other_turn e q = turn e (subst (λ (d : Buffer). Adds [] b d) q (none b))
 
 -- ---- the cells by the index
 

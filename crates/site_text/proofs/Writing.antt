@@ -1,50 +1,37 @@
--- The laws of bytes that are written one after the other, and of a number's digits. Main results: `none`, `then`, `one`, `decimal_places`, `hex_places`. Assumes nothing.
+-- The laws of bytes that are written one after the other, and of a number's digits. Main results: `none`, `then`, `told`, `decimal_places`, `hex_places`. Assumes nothing.
 use mathlib.Core.Path.{◌≡◌, refl, sym, ap, ◌∙◌}
 use mathlib.Core.Bool.{Bool, true, false, cond}
 use mathlib.Core.List.{List, [], ◌∷◌, ◌++◌, append-nil, append_assoc}
-use Prim.Native.Nat.{ℕ, zero, suc, ◌+◌, ◌-◌, ◌*◌, ◌/◌, ◌^◌, ◌≤◌, ◌<◌}
-use native.Mathlib.Numerals.{add-one}
+use Prim.Native.Nat.{ℕ, zero, suc, ◌-◌, ◌*◌, ◌/◌, ◌^◌, ◌≤◌, ◌<◌}
 use native.Mathlib.Nat.{pow-suc, pow-le-pow_right}
 use native.Mathlib.Decide.{dec_lt}
 use native.Mathlib.Omega.{arith}
-use lib.ListN.{length, get_or, set, take, length-set, length-append}
-use lib.Seq.{take-suc, take-suc-set, take-length}
+use lib.ListN.{length, take, length-append}
 use lib.Dec.{ltb}
-use lib.Ieee.{Float, binary64, to_bits}
+use lib.Ieee.{binary64, to_bits}
 use borrow.Author.Tests.{ltb-true, ltb-false}
 use Rattle.io.specs.Digits.{last_digits, IsDigitCount}
-use Rattle.sequence.specs.Sheets.{triplet}
+use Rattle.sequence.specs.declared.Triplet.{Triplet}
+use Rattle.site_text.specs.declared.buffer.Buffer.{Buffer}
 use Rattle.site_text.specs.Text.{places, decimal_of, first_line, triplet_line}
-use Rattle.site_text.specs.Writing.{Wrote}
+use Rattle.site_text.specs.Writing.{Adds}
 
 -- ---- writing
 
-pub none : (old : List ℕ) (at : ℕ) → Wrote [] old old at at
-none old at = record { end = omega arith; text = sym (append-nil (take at old)); kept = refl }
+pub none : (t : Buffer) → Adds [] t t
+none t = record { len = omega arith; text = sym (append-nil (take t.len t.bytes.now)); kept = refl; same_reference = refl }
 
 -- one after the other
-pub then : {a b old mid new : List ℕ} {at j k : ℕ} → Wrote a old mid at j → Wrote b mid new j k → Wrote (a ++ b) old new at k
-then {a} {b} {old} p q =
+pub then : {a b : List ℕ} {t u v : Buffer} → Adds a t u → Adds b u v → Adds (a ++ b) t v
+then {a} {b} {t} p q =
     record {
-      end = rw length-append (omega (arith, p.end, q.end));
+      len = rw length-append (omega (arith, p.len, q.len));
       text = q.text ∙ rw (p.text, append_assoc);
       kept = q.kept ∙ p.kept;
+      same_reference = q.same_reference ∙ p.same_reference;
     }
 
--- one byte
-pub one : (old : List ℕ) (at x : ℕ) → at < length old → Wrote (x ∷ []) old (set old at x) at (at + 1)
-one old at x h = record { end = omega arith; text = rw add-one (take-suc-set old at x h); kept = length-set old at x }
-
--- one byte more of a list
-pub more : (from : List ℕ) {old mid new : List ℕ} {at j k : ℕ} (i : ℕ) → i < length from → Wrote (take i from) old mid at j → Wrote (get_or from i 0 ∷ []) mid new j k → Wrote (take (i + 1) from) old new at k
-more from i h p q = rw (add-one, take-suc from i 0 h) (then p q)
-
-pub whole : {from old new : List ℕ} {at k : ℕ} {i : ℕ} → length from ≤ i → i ≤ length from → Wrote (take i from) old new at k → Wrote from old new at k
-whole {from} {i = i} a b p =
-    let e : i ≡ length from = omega arith in
-    rw take-length at (rw e at p)
-
-pub told : {a b old new : List ℕ} {at k : ℕ} → a ≡ b → Wrote a old new at k → Wrote b old new at k
+pub told : {a b : List ℕ} {t u : Buffer} → a ≡ b → Adds a t u → Adds b t u
 told e p = rw e at p
 
 -- ---- digits
@@ -115,18 +102,13 @@ decimal_length n = omega (arith, digits_length 10 (places 19 n) n, places_most 1
 pub hex_text : (n r : ℕ) (text : List ℕ) → n < 0x1_0000_0000_0000_0000 → IsDigitCount 16 16 n r → take r text ≡ last_digits 16 r n → take r text ≡ last_digits 16 16 n
 hex_text n r text h f e = e ∙ ap (λ (k : ℕ). last_digits 16 k n) (hex_places n r h f)
 
-pub first_line_lem : (number count : ℕ) {old mid new : List ℕ} {at j k : ℕ} → Wrote (decimal_of number ++ 32 ∷ []) old mid at j → Wrote (decimal_of count ++ 10 ∷ []) mid new j k
-    → Wrote (first_line number count) old new at k
+pub first_line_lem : {number count n k : ℕ} {t₀ t₁ t₂ t₃ t₄ : Buffer} → n ≡ number → k ≡ count → Adds (decimal_of n) t₀ t₁ → Adds (32 ∷ []) t₁ t₂ → Adds (decimal_of k) t₂ t₃ → Adds (10 ∷ []) t₃ t₄
+    → Adds (first_line number count) t₀ t₄
 unfolding first_line
-first_line_lem number count p q = told (append_assoc (decimal_of number) (32 ∷ []) (decimal_of count ++ 10 ∷ [])) (then p q)
+first_line_lem e d p q r s = rw (e, d) at (then p (then q (then r s)))
 
-grouped : (a b h : List ℕ) → (((a ++ 32 ∷ []) ++ (b ++ 32 ∷ [])) ++ h) ++ 10 ∷ [] ≡ a ++ 32 ∷ (b ++ 32 ∷ (h ++ 10 ∷ []))
-grouped a b h = simp append_assoc
-
-pub triplet_line_lem : (row col : ℕ) (value : Float) {n : ℕ} {w₀ w₁ w₂ w₃ w₄ : List ℕ} {k₀ k₁ k₂ k₃ k₄ : ℕ} → n ≡ to_bits binary64 value
-    → Wrote (decimal_of row ++ 32 ∷ []) w₀ w₁ k₀ k₁ → Wrote (decimal_of col ++ 32 ∷ []) w₁ w₂ k₁ k₂ → Wrote (last_digits 16 16 n) w₂ w₃ k₂ k₃ → Wrote (10 ∷ []) w₃ w₄ k₃ k₄
-    → Wrote (triplet_line (triplet row col value)) w₀ w₄ k₀ k₄
+pub triplet_line_lem : (t : Triplet) {row col bits : ℕ} {t₀ t₁ t₂ t₃ t₄ t₅ t₆ : Buffer} → row ≡ t.row → col ≡ t.col → bits ≡ to_bits binary64 t.value
+    → Adds (decimal_of row) t₀ t₁ → Adds (32 ∷ []) t₁ t₂ → Adds (decimal_of col) t₂ t₃ → Adds (32 ∷ []) t₃ t₄ → Adds (last_digits 16 16 bits) t₄ t₅ → Adds (10 ∷ []) t₅ t₆
+    → Adds (triplet_line t) t₀ t₆
 unfolding triplet_line
-triplet_line_lem row col value {n} e p q r s =
-    told (grouped (decimal_of row) (decimal_of col) (last_digits 16 16 (to_bits binary64 value)))
-    (then (then (then p q) (told (ap (λ (n : ℕ). last_digits 16 16 n) e) r)) s)
+triplet_line_lem t e d b p q r s u v = rw (e, d, b) at (then p (then q (then r (then s (then u v)))))

@@ -6,7 +6,7 @@ use Rattle.std.specs.Float.Ieee.{to_bits}
 use Rattle.float64.specs.Values.{whole}
 use Rattle.io.specs.Digits.{last_digits}
 use Rattle.sequence.specs.Lists.{made, when}
-use Rattle.sequence.specs.Sheets.{Triplet}
+use Rattle.sequence.specs.declared.Triplet.{Triplet}
 use Rattle.words.specs.Words.{word_at, joined}
 use Rattle.solution.specs.NetworkB.{wiring_b, readings_b, sheet_b}
 use Rattle.kkt.specs.Slots.Rule.{first_place}

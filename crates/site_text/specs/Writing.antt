@@ -1,8 +1,10 @@
--- Bytes that are written one after the other into a lent buffer. Main definition: `Wrote`. Assumes nothing.
+-- Bytes that are written one after the other into a lent buffer. Main definition: `Adds`. Assumes nothing.
 use Rattle.std.specs.Prelude.{ℕ, ◌+◌, ◌≡◌, List, ◌++◌, length, take}
+use Rattle.site_text.specs.declared.buffer.Buffer.{Buffer}
 
--- the bytes stand from a place on, and what stood before it still does; k is the next place
-pub record Wrote (bytes old new : List ℕ) (at k : ℕ) : Type 0 where
-  pub end : k ≡ at + length bytes
-  pub text : take k new ≡ take at old ++ bytes
-  pub kept : length new ≡ length old
+-- the bytes stand behind those that the buffer had, which still do, and it is the same lent one
+pub record Adds (bytes : List ℕ) (old new : Buffer) : Type 0 where
+  pub len : new.len ≡ old.len + length bytes
+  pub text : take new.len new.bytes.now ≡ take old.len old.bytes.now ++ bytes
+  pub kept : length new.bytes.now ≡ length old.bytes.now
+  pub same_reference : new.bytes.ghost_name ≡ old.bytes.ghost_name

@@ -9,7 +9,7 @@ use network::layout::word;
 use network::{Counts, Part};
 
 // The sheet's entries, in the paper's order.
-#[derive(Clone, Copy)]
+#[derive(Clone, Copy, PartialEq, Eq, Debug)]
 pub enum Entry {
     Va,
     Pg,
@@ -59,23 +59,12 @@ pub fn entry_size(c: Counts, p: usize, e: Entry) -> usize
     ensures { result ≡ size c p e }
 {
     match e {
-        Entry::Va => c.buses,
-        Entry::Pg => c.generators,
-        Entry::Flow => c.branches,
-        Entry::Psh => c.buses,
-        Entry::NuBal => c.buses,
-        Entry::LamUb => c.branches,
-        Entry::LamLb => c.branches,
-        Entry::RhoUb => c.generators,
-        Entry::RhoLb => c.generators,
-        Entry::MuUb => c.buses,
-        Entry::MuLb => c.buses,
-        Entry::GammaUb => c.branches,
-        Entry::GammaLb => c.branches,
+        Entry::Va | Entry::Psh | Entry::NuBal | Entry::MuUb | Entry::MuLb => c.buses,
+        Entry::Pg | Entry::RhoUb | Entry::RhoLb => c.generators,
+        Entry::Flow | Entry::LamUb | Entry::LamLb | Entry::GammaUb | Entry::GammaLb => c.branches,
         Entry::Epigraph => p,
         Entry::SegmentDual => c.segments,
-        Entry::LinearDual => c.rows,
-        Entry::LinearValue => c.rows,
+        Entry::LinearDual | Entry::LinearValue => c.rows,
         Entry::Objective => 1,
     }
 }

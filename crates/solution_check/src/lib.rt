@@ -1,18 +1,20 @@
 // Numbers 1 to 3 of a network with its solution sheet.
 #![tactic(auto)]
 
-ghost use Rattle.std.specs.Prelude.{◌≡◌, true, ℕ, ◌<◌, ◌≤◌, length, take};
-ghost use Rattle.sequence.specs.Answers.{first_of};
+ghost use Rattle.std.specs.Prelude.{◌≡◌, true, ℕ, ◌<◌, ◌≤◌, length, take, IfOk};
+ghost use Rattle.sequence.specs.Answers.{first_of, number_of};
 ghost use Rattle.float64.specs.Values.{sheet_limit};
-ghost use Rattle.network.specs.Layout.{counts_of, Few};
-ghost use Rattle.network.specs.Numbers.{lent, sizes_hold, all_within};
+ghost use Rattle.network.specs.Layout.{Few};
+ghost use Rattle.network.specs.Numbers.{sizes_hold, all_within};
+ghost use Rattle.network.specs.Sites.{network_in, SiteOf};
 ghost use Rattle.solution.specs.Sheet.{sheet_length};
 ghost use Rattle.solution_check.specs.Tests.{solution_long, looked_at, solution_tests, Solved};
 
 use float64::sheet_limit;
-use network::Counts;
-use network::check::{all_within, network_number_with, sizes_hold};
+use network::check::{all_within, sizes_hold};
 use network::layout::counts;
+use network::{Counts, Lent, Site};
+use sequence::Refusal;
 use solution::piece_count;
 
 // 5n + 3k + 5m + p + S + 2q + 1.
@@ -25,15 +27,15 @@ pub fn sheet_length(c: Counts, p: usize) -> usize
 }
 
 // Whether the sheet is as long as it should be; on a network whose own sizes don't hold any answer will do.
-fn sheet_is_long(
-    wiring: &[u32],
-    readings: &[f64],
-    term_index: &[u32],
-    term_coefficient: &[f64],
-    solution: &[f64],
-) -> bool
-    ensures { sizes_hold (lent wiring.entry readings.entry term_index.entry term_coefficient.entry) ≡ true → result ≡ solution_long (lent wiring.entry readings.entry term_index.entry term_coefficient.entry) solution.now }
+fn sheet_is_long(lent: Lent<'_>, solution: &[f64]) -> bool
+    ensures { sizes_hold (network_in lent.entry) ≡ true → result ≡ solution_long (network_in lent.entry) solution.now }
 {
+    let Lent {
+        wiring,
+        readings,
+        term_index,
+        term_coefficient,
+    } = lent;
     if !sizes_hold(wiring, readings, term_index, term_coefficient) {
         return false;
     }
@@ -54,25 +56,21 @@ fn sheet_holds(solution: &[f64], c: Counts, whole: bool) -> bool
     all_within(&solution[0..to], limit)
 }
 
-// The number of a network with its solution sheet: 0, or the lowest of 1 to 3 whose condition holds.
-pub fn solution_number(
-    wiring: &[u32],
-    readings: &[f64],
-    term_index: &[u32],
-    term_coefficient: &[f64],
+// A network with its solution sheet, where none of the numbers 1 to 3 is due to either.
+pub fn accept_solution<'a>(
+    lent: Lent<'a>,
     solution: &[f64],
     whole: bool,
-) -> u32
-    ensures value { result ≡ first_of (solution_tests whole (lent wiring.entry readings.entry term_index.entry term_coefficient.entry) solution.now) }
-    ensures solved { result ≡ 0 → Solved (lent wiring.entry readings.entry term_index.entry term_coefficient.entry) solution.now (counts_of wiring.now) }
+) -> Result<Site<'a>, Refusal>
+    ensures number { number_of result ≡ first_of (solution_tests whole (network_in lent.entry) solution.now) }
+    ensures accepted { IfOk result (SiteOf lent.entry) }
+    ensures solved { IfOk result (λ site. Solved (network_in lent.entry) solution.now site.counts) }
 {
-    let sizes = sheet_is_long(wiring, readings, term_index, term_coefficient, solution);
-    let number = network_number_with(wiring, readings, term_index, term_coefficient, sizes, true);
-    if number != 0 {
-        return number;
+    let sizes = sheet_is_long(lent, solution);
+    let site = lent.accept_with(sizes, true)?;
+    if sheet_holds(solution, site.counts, whole) {
+        Ok(site)
+    } else {
+        Err(Refusal::Reading)
     }
-    if sheet_holds(solution, counts(wiring), whole) {
-        return 0;
-    }
-    3
 }

@@ -11,12 +11,12 @@ use lib.Dec.{eqb}
 use lib.Ieee.{Float, nan, eq}
 use borrow.Author.Tests.{eq-eqb, ne_eqb}
 use Rattle.float64.specs.Values.{nought, add_at, sub_at}
-use Rattle.sequence.specs.Lists.{each, turns, some, when}
+use Rattle.sequence.specs.Lists.{each, turns, some}
 use Rattle.sequence.specs.Links.{First, Links}
 use Rattle.sequence.specs.Sheets.{emit, Sheets, Puts}
 use Rattle.sequence.proofs.Lists.{each_same, each_skip, each_add, turns_more, turns_same, turns_skip, turns_pairs, stored_at}
 use Rattle.sequence.proofs.Links.{links_more}
-use Rattle.sequence.proofs.Sheets.{then}
+use Rattle.sequence.proofs.Sheets.{then, emit_item}
 use Rattle.network.specs.declared.Counts.{Counts}
 use Rattle.network.specs.declared.Part.TheVariants.{BrFrom, BrTo}
 use Rattle.network.specs.Layout.{wire}
@@ -244,8 +244,8 @@ module _ (c : Counts) (w : List ℕ) (r : List Float) (i : ℕ) where
 
   -- the cells of the row are those of the definition
   pub row_is : {acc : List Float} {hit : List ℕ} → RowHeld c w r i acc hit → each c.buses (cell_at acc hit i) ≡ susceptance_row c w r i
-  unfolding cell_at susceptance_row susceptance_cell emit
-  row_is h = each_same c.buses _ _ (λ j l. rw (h.marks j l, h.sums j l, kept (touched c w r i j)))
+  unfolding cell_at susceptance_row susceptance_cell
+  row_is h = each_same c.buses _ _ (λ j l. rw (h.marks j l, h.sums j l, kept (touched c w r i j)) (emit_item (touched c w r i j) _ _ _))
     where
       kept : (b : Bool) → not (eqb (cond b 1 0) 0) ≡ b
       kept true = refl
@@ -254,11 +254,11 @@ module _ (c : Counts) (w : List ℕ) (r : List Float) (i : ℕ) where
 -- ---- the row's cells, by blocks of 16 columns
 
 pub span_none : (acc : List Float) (hit : List ℕ) (i a b : ℕ) → ((j : ℕ) → j < b → mark_at hit (a + j) ≡ 0) → span_at acc hit i a b ≡ []
-unfolding span_at cell_at emit when each
+unfolding span_at cell_at emit each
 span_none acc hit i a b h = each_skip _ 0 b (omega arith) (λ j p q. rw (h j q))
 
 -- one block more
-pub block_more : {limit : ℕ} {S₀ S₁ S₂ : Sheets} (acc : List Float) (hit : List ℕ) (i n q b : ℕ) → 16 * q ≤ n → b ≡ min 16 (n - 16 * q)
+pub block_more : {limit : ℕ} {S₀ S₁ S₂ : Sheets} (acc : List Float) (hit : List ℕ) (i n q b : ℕ) → 16 * q ≤ n → b ≡ min (n - 16 * q) 16
     → Puts limit (each (min (16 * q) n) (cell_at acc hit i)) S₀ S₁ → Puts limit (span_at acc hit i (16 * q) b) S₁ S₂
     → Puts limit (each (min (16 * (q + 1)) n) (cell_at acc hit i)) S₀ S₂
 unfolding span_at

@@ -5,7 +5,8 @@ use Rattle.std.specs.Float.{nan}
 use Rattle.float64.specs.Values.{nought, add_at, sub_at}
 use Rattle.sequence.specs.Lists.{each, turns}
 use Rattle.sequence.specs.Links.{Links}
-use Rattle.sequence.specs.Sheets.{Triplet, item, emit}
+use Rattle.sequence.specs.declared.Triplet.{Triplet}
+use Rattle.sequence.specs.Sheets.{item, emit}
 use Rattle.network.specs.declared.Counts.{Counts}
 use Rattle.network.specs.declared.Part.TheVariants.{BrFrom, BrTo}
 use Rattle.network.specs.Layout.{wire}

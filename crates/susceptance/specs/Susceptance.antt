@@ -5,7 +5,8 @@ use Rattle.std.specs.Float.{binary64}
 use Rattle.std.specs.Float.Ieee.{mul, neg, eq}
 use Rattle.float64.specs.Values.{nought, add_at, sub_at}
 use Rattle.sequence.specs.Lists.{each, when, turns, some}
-use Rattle.sequence.specs.Sheets.{Triplet, triplet}
+use Rattle.sequence.specs.declared.Triplet.{Triplet}
+use Rattle.sequence.specs.Sheets.{triplet}
 use Rattle.network.specs.declared.Counts.{Counts}
 use Rattle.network.specs.declared.Part.TheVariants.{BrFrom, BrTo}
 use Rattle.network.specs.declared.Field.TheVariants.{Susceptance, Sw}

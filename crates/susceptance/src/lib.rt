@@ -14,7 +14,7 @@ ghost use Rattle.susceptance.specs.Incidence.{end_at, Chains, takes, cell_sum, c
 
 use network::layout::{reading, wide, word};
 use network::{Counts, Field, Part};
-use sequence::{Item, fill, least, push, put};
+use sequence::{Triplet, push, put};
 
 // The chains of the branches' ends, by bus.
 pub fn link_ends(wiring: &[u32], c: Counts, head: &mut [u32], next: &mut [u32])
@@ -23,10 +23,8 @@ pub fn link_ends(wiring: &[u32], c: Counts, head: &mut [u32], next: &mut [u32])
     ensures { Links (end_at c wiring.now) c.buses (2 * c.branches) 0 head.new next.new }
 {
     let m = c.branches;
-    fill(head, c.buses, (2 * m) as u32);
-    let mut e = m;
-    while e > 0 {
-        e -= 1;
+    head[..c.buses].fill((2 * m) as u32);
+    for e in (0..m).rev() {
         push(head, next, word(wiring, c, Part::BrTo, e), 2 * e + 1);
         push(head, next, word(wiring, c, Part::BrFrom, e), 2 * e);
     }
@@ -152,16 +150,6 @@ fn walk(
     }
 }
 
-// Each of the first n sums is +0.
-fn blank(acc: &mut [f64], n: usize)
-    requires { n ≤ length acc.old }
-    ensures { (j : ℕ) → j < n → get_or acc.new j nan ≡ nought }
-{
-    for j in 0..n {
-        acc[j] = 0.0;
-    }
-}
-
 // Row i by column, made anew.
 pub fn make_row(
     wiring: &[u32],
@@ -180,22 +168,24 @@ pub fn make_row(
     requires i_lt_buses { i < c.buses }
     ensures { RowHeld c wiring.now readings.now i acc.new hit.new }
 {
-    blank(acc, c.buses);
-    fill(hit, 16 + c.buses, 0);
+    acc[..c.buses].fill(0.0);
+    hit[..16 + c.buses].fill(0);
     walk(wiring, readings, c, head, next, i, acc, hit);
 }
 
 // Column j of row i, kept where it is marked.
-fn cell(acc: &[f64], hit: &[u32], i: usize, j: usize) -> Item
+fn cell(acc: &[f64], hit: &[u32], i: usize, j: usize) -> Option<Triplet>
     requires { (j < length acc.now) × (16 + j < length hit.now) × (i < 256) × (j < 256) }
     ensures { result ≡ item (not (eqb (mark_at hit.now j) 0)) i j (get_or acc.now j nan) }
 {
-    Item {
-        keep: hit[16 + j] != 0,
+    if hit[16 + j] == 0 {
+        return None;
+    }
+    Some(Triplet {
         row: i as u32,
         col: j as u32,
         value: acc[j],
-    }
+    })
 }
 
 // Columns a to a + b - 1 of row i, of which none is marked where they are not on.
@@ -258,7 +248,7 @@ fn put_cells(
             hit,
             i,
             a,
-            least(16, n - a),
+            (n - a).min(16),
             rows,
             cols,
             values,

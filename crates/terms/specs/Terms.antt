@@ -28,20 +28,8 @@ network_of w r ts = record { wiring = w; readings = r; indexes = indexes_of ts; 
 unfoldable pub array_call : List ℕ → List Float → List Term → ℕ → ℕ → List Float → List Float → List Float → Filled Float
 array_call w r ts n q f pg sheet = cond (leb n 1024) (evaluate_call (network_of w r (take n ts)) q f pg sheet) (filled 1 0 sheet)
 
--- ---- on the way: the terms in an array, and in two
-
--- the terms are in front of an array, where it has room for them
-abbrev pub Collected : List Term → List Term → Type 0
-Collected ts r = (length r ≡ 1024) × (length ts ≤ 1024 → take (length ts) r ≡ ts)
+-- ---- on the way: the terms in two arrays
 
 -- the arrays' fronts are the terms, where there is room for them
 abbrev pub Apart : List Term → Columns → Type 0
 Apart ts c = length ts ≤ 1024 → (take (length ts) c.indexes ≡ indexes_of ts) × (take (length ts) c.coefficients ≡ coefficients_of ts)
-
--- the network of the arrays' fronts of n places
-abbrev pub fronts_of : List ℕ → List Float → Columns → ℕ → Network
-fronts_of w r c n = record { wiring = w; readings = r; indexes = take n c.indexes; coefficients = take n c.coefficients }
-
--- the call on the fronts: more places than the arrays have are number 1
-unfoldable pub columns_call : List ℕ → List Float → Columns → ℕ → ℕ → List Float → List Float → List Float → Filled Float
-columns_call w r c n q f pg sheet = cond (leb n 1024) (evaluate_call (fronts_of w r c n) q f pg sheet) (filled 1 0 sheet)

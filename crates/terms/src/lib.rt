@@ -1,13 +1,14 @@
 // The terms as small records, each an index and a coefficient, by value or as a lent slice: taken apart into two arrays for the model's own call.
 #![tactic(auto)]
 
-ghost use Rattle.std.specs.Prelude.{◌≡◌, ℕ, ◌≤◌, take};
-ghost use Rattle.sequence.specs.Answers.{filled};
+ghost use Rattle.std.specs.Prelude.{◌≡◌, ℕ, ◌≤◌, length};
+ghost use Rattle.sequence.specs.Answers.{answered};
 ghost use Rattle.model.specs.Calls.{evaluate_call};
-ghost use Rattle.terms.specs.Terms.{Apart, columns_call, network_of, array_call, Collected};
+ghost use Rattle.terms.specs.Terms.{Apart, network_of, array_call};
 
 use model::dc;
-use sequence::Answer;
+use network::Lent;
+use sequence::{Answer, Refusal};
 
 #[derive(Clone, Copy)]
 pub struct Term {
@@ -22,92 +23,49 @@ struct Columns {
     coefficients: [f64; 1024],
 }
 
-fn blank() -> [Term; 1024] {
-    let none = Term {
-        index: 0,
-        coefficient: 0.0,
+// The terms taken apart.
+fn take_apart(terms: &[Term]) -> Columns
+    requires { length terms.now ≤ 1024 }
+    ensures { Apart terms.now result }
+{
+    let mut columns = Columns {
+        indexes: [0; 1024],
+        coefficients: [0.0; 1024],
     };
-    [none; 1024]
-}
-
-// How many terms are taken: all, or none where the arrays have no room for them.
-fn to_take(n: usize) -> usize
-    ensures { (result ≤ n) × ((n ≤ 1024 → result ≡ n) × (result ≤ 1024)) }
-{
-    if 1024 < n {
-        return 0;
+    for i in 0..terms.len() {
+        columns.indexes[i] = terms[i].index;
+        columns.coefficients[i] = terms[i].coefficient;
     }
-    n
+    columns
 }
 
-// The terms in front of an array, where it has room for them.
-fn collect(terms: &[Term]) -> [Term; 1024]
-    ensures { Collected terms.now result }
-{
-    let mut ts = blank();
-    let n = to_take(terms.len());
-    let mut i: usize = 0;
-    while i < n {
-        ts[i] = terms[i];
-        i += 1;
-    }
-    ts
-}
-
-// A linear row's value, the terms being the fronts of n places.
-fn evaluate_columns(
+// A linear row's value at flows and powers, the terms being a lent slice. A network has at most 1,024 terms.
+pub fn evaluate(
     wiring: &[u32],
     readings: &[f64],
-    c: Columns,
-    n: usize,
+    terms: &[Term],
     row: usize,
     f: &[f64],
     pg: &[f64],
     out: &mut [f64],
 ) -> Answer
-    ensures { filled result.number result.count out.new ≡ columns_call wiring.now readings.now c n row f.now pg.now out.old }
+    ensures { answered result out.new ≡ evaluate_call (network_of wiring.now readings.now terms.now) row f.now pg.now out.old }
 {
-    let indexes = c.indexes;
-    let coefficients = c.coefficients;
-    if n > 1024 {
-        return Answer {
-            number: 1,
-            count: 0,
-        };
+    let n = terms.len();
+    if 1024 < n {
+        return Err(Refusal::Size);
     }
-    dc::evaluate(
+    let columns = take_apart(terms);
+    let lent = Lent {
         wiring,
         readings,
-        &indexes[..n],
-        &coefficients[..n],
-        row,
-        f,
-        pg,
-        out,
-    )
+        term_index: &columns.indexes[..n],
+        term_coefficient: &columns.coefficients[..n],
+    };
+    dc::evaluate(lent, row, f, pg, out)
 }
 
-// The first n terms of an array, taken apart.
-fn array_apart(terms: [Term; 1024], n: usize) -> Columns
-    ensures { n ≤ 1024 → Apart (take n terms) result }
-{
-    let mut indexes = [0u32; 1024];
-    let mut coefficients = [0.0; 1024];
-    let m = to_take(n);
-    let mut i: usize = 0;
-    while i < m {
-        let t = terms[i];
-        indexes[i] = t.index;
-        coefficients[i] = t.coefficient;
-        i += 1;
-    }
-    Columns {
-        indexes,
-        coefficients,
-    }
-}
-
-// A linear row's value at flows and powers, the terms being the first n of an array: a caller makes no reference to a record.
+// The same for the first n terms of an array: a caller makes no reference to a record.
 pub fn evaluate_array(
     wiring: &[u32],
     readings: &[f64],
@@ -118,31 +76,10 @@ pub fn evaluate_array(
     pg: &[f64],
     out: &mut [f64],
 ) -> Answer
-    ensures { filled result.number result.count out.new ≡ array_call wiring.now readings.now terms n row f.now pg.now out.old }
+    ensures { answered result out.new ≡ array_call wiring.now readings.now terms n row f.now pg.now out.old }
 {
-    evaluate_columns(wiring, readings, array_apart(terms, n), n, row, f, pg, out)
-}
-
-// The same for a lent slice of terms.
-pub fn evaluate(
-    wiring: &[u32],
-    readings: &[f64],
-    terms: &[Term],
-    row: usize,
-    f: &[f64],
-    pg: &[f64],
-    out: &mut [f64],
-) -> Answer
-    ensures { filled result.number result.count out.new ≡ evaluate_call (network_of wiring.now readings.now terms.now) row f.now pg.now out.old }
-{
-    evaluate_array(
-        wiring,
-        readings,
-        collect(terms),
-        terms.len(),
-        row,
-        f,
-        pg,
-        out,
-    )
+    let Some(first) = terms.get(..n) else {
+        return Err(Refusal::Size);
+    };
+    evaluate(wiring, readings, first, row, f, pg, out)
 }

@@ -8,25 +8,12 @@ ghost use Rattle.std.specs.Float.Ieee.{of_bits, to_bits};
 ghost use Rattle.sequence.specs.Lists.{made, front};
 ghost use Rattle.words.specs.Words.{at32, at64, word_at, double_at, bytes_of, word_bytes, double_bytes};
 
-fn wide(x: u8) -> u32
-    ensures { (result ≡ x) × (result < 256) }
-{
-    x as u32
-}
-
-fn byte(b: &[u8], i: usize) -> u32
-    requires { i < length b.now }
-    ensures { (result ≡ get_or b.now i 0) × (result < 256) }
-{
-    wide(b[i])
-}
-
 // The word of four bytes.
 pub fn word32(b: &[u8], at: usize) -> u32
     requires { at + 4 ≤ length b.now }
     ensures { result ≡ at32 b.now at }
 {
-    byte(b, at) + 256 * byte(b, at + 1) + 65536 * byte(b, at + 2) + 16777216 * byte(b, at + 3)
+    u32::from_le_bytes([b[at], b[at + 1], b[at + 2], b[at + 3]])
 }
 
 // The word of eight bytes.
@@ -34,9 +21,16 @@ pub fn word64(b: &[u8], at: usize) -> u64
     requires { at + 8 ≤ length b.now }
     ensures { result ≡ at64 b.now at }
 {
-    let low = word32(b, at) as u64;
-    let high = word32(b, at + 4) as u64;
-    low + 4294967296 * high
+    u64::from_le_bytes([
+        b[at],
+        b[at + 1],
+        b[at + 2],
+        b[at + 3],
+        b[at + 4],
+        b[at + 5],
+        b[at + 6],
+        b[at + 7],
+    ])
 }
 
 // The double of a bit pattern, also of a NaN's.
@@ -67,10 +61,8 @@ pub fn decode_words(bytes: &[u8], n: usize, into: &mut [u32])
     ensures into_after { into.new ≡ front (made (word_at bytes.now) n) into.old }
     ensures kept { length into.new ≡ length into.old }
 {
-    let mut i: usize = 0;
-    while i < n {
+    for i in 0..n {
         into[i] = word32(bytes, 4 * i);
-        i += 1;
     }
 }
 
@@ -80,10 +72,8 @@ pub fn decode_doubles(bytes: &[u8], n: usize, into: &mut [f64])
     ensures into_after { into.new ≡ front (made (double_at bytes.now) n) into.old }
     ensures kept { length into.new ≡ length into.old }
 {
-    let mut i: usize = 0;
-    while i < n {
+    for i in 0..n {
         into[i] = number(word64(bytes, 8 * i));
-        i += 1;
     }
 }
 
@@ -93,18 +83,10 @@ pub fn put(out: &mut [u8], at: usize, k: usize, v: u64)
     ensures { out.new ≡ sets out.old at (bytes_of k v) }
 {
     let mut rest = v;
-    let mut i: usize = 0;
-    while i < k {
+    for i in 0..k {
         out[at + i] = (rest % 256) as u8;
-        rest = rest / 256;
-        i += 1;
+        rest /= 256;
     }
-}
-
-fn long(x: u32) -> u64
-    ensures { result ≡ x }
-{
-    x as u64
 }
 
 // The bytes of the first n words.
@@ -113,10 +95,8 @@ pub fn encode_words(from: &[u32], n: usize, out: &mut [u8])
     ensures out_after { out.new ≡ front (word_bytes (take n from.now)) out.old }
     ensures kept { length out.new ≡ length out.old }
 {
-    let mut i: usize = 0;
-    while i < n {
-        put(out, 4 * i, 4, long(from[i]));
-        i += 1;
+    for i in 0..n {
+        put(out, 4 * i, 4, u64::from(from[i]));
     }
 }
 
@@ -126,9 +106,7 @@ pub fn encode_doubles(from: &[f64], n: usize, out: &mut [u8])
     ensures out_after { out.new ≡ front (double_bytes (take n from.now)) out.old }
     ensures kept { length out.new ≡ length out.old }
 {
-    let mut i: usize = 0;
-    while i < n {
+    for i in 0..n {
         put(out, 8 * i, 8, pattern(from[i]));
-        i += 1;
     }
 }

@@ -94,8 +94,9 @@ const RELATIONS: [(&str, &str); 8] = [
     ("≠", "≠"),
 ];
 
-/// Parts of a contract, as the checker names them: the last two are what a call requires, and several clauses, a record of them.
-const CONTRACTS: [&str; 6] = ["Post", "Learnt", "Asked", "Pre", CLAIMS, "record"];
+/// Parts of a contract, as the checker names them: the last three are what a call requires, in two ways, and several clauses, a record of
+/// them.
+const CONTRACTS: [&str; 7] = ["Post", "Learnt", "Asked", "Pre", "AllOf", CLAIMS, "record"];
 
 /// How it names what calls require: `(..Tie.the-claims).6`, with the call's place.
 const CLAIMS: &str = "the-claims";

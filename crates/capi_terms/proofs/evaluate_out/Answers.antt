@@ -2,15 +2,12 @@
 use native.Mathlib.Omega.{arith}
 use mathlib.Core.Path.{◌∙◌}
 use Rattle.decoding.proofs.Answered.{element_answer, element_count}
-use Rattle.capi_terms.proofs.Recorded.{array_front}
 use Rattle.capi_terms.proofs.evaluate_out.Goals as goal
 
 pub answered-requires : goal.answered-requires
-answered-requires c = let a = c.args in
-    let e = c.evaluate_array-a.ensures ∙ array_front a.wiring.now a.readings.now a.terms a.n a.row a.f.now a.pg.now a.cells.now c.requires.n_bound in
-    omega (arith, element_count _ _ _ _ _ _ a.sheet.now a.cells.now c.requires.cells e, c.requires.cells.below, c.requires.cells.within)
+answered-requires c = let e = c.evaluate-answer.ensures in
+    omega (arith, element_count _ _ _ _ _ _ c.args.sheet.now c.args.cells.now c.requires e, c.requires.below, c.requires.within)
 
 pub returns : goal.returns
-returns c = let a = c.args in
-    let e = c.evaluate_array-a.ensures ∙ array_front a.wiring.now a.readings.now a.terms a.n a.row a.f.now a.pg.now a.cells.now c.requires.n_bound in
-    c.answered.ensures ∙ element_answer _ _ _ _ _ _ a.sheet.now a.cells.now c.requires.cells e
+returns c = let e = c.evaluate-answer.ensures in
+    c.answered.ensures ∙ element_answer _ _ _ _ _ _ c.args.sheet.now c.args.cells.now c.requires e

@@ -1,11 +1,9 @@
 -- `change_run::run_changes` meets its contract: the loop goes by the run's last change. Assumes nothing.
-use mathlib.Core.Path.{refl}
 use mathlib.Core.List.{[]}
-use Prim.Native.Nat.{◌-◌}
 use native.Mathlib.Omega.{arith}
 use Rattle.kkt.specs.Slots.Rule.{first_place}
 use Rattle.job_book.specs.Book.{given, words}
-use Rattle.change_run.proofs.Run.{begin, more, run_uneven, run_short_numbers, run_short_counts, run_done}
+use Rattle.change_run.proofs.Run.{begin, more, run_uneven, run_short, run_done}
 use Rattle.change_run.proofs.run_changes.Goals as goal
 
 pub returns-then-changes-ne0 : goal.returns-then-changes-ne0
@@ -18,62 +16,21 @@ pub returns-then-numbers-n : goal.returns-then-numbers-n
 returns-then-numbers-n c = let a = c.args in
     let g = given a.wiring.now a.term_index.now a.term_coefficient.now a.solution.now in
     let u = words a.readings.now a.rows.now a.cols.now a.values.now in
-    run_short_numbers g first_place (λ W h. []) u a.changes.now a.numbers.now a.counted.now c.if-changes-ne0.false c.if-numbers-n.true
-
-pub returns-then-counted-n : goal.returns-then-counted-n
-returns-then-counted-n c = let a = c.args in
-    let g = given a.wiring.now a.term_index.now a.term_coefficient.now a.solution.now in
-    let u = words a.readings.now a.rows.now a.cols.now a.values.now in
-    run_short_counts g first_place (λ W h. []) u a.changes.now a.numbers.now a.counted.now c.if-changes-ne0.false c.if-numbers-n.false c.if-counted-n.true
+    run_short g first_place (λ W h. []) u a.changes.now a.numbers.now a.counted.now c.if-changes-ne0.false c.then-numbers-n.either
 
 pub loop-i-init : goal.loop-i-init
 loop-i-init c = let a = c.args in
     let g = given a.wiring.now a.term_index.now a.term_coefficient.now a.solution.now in
     let u = words a.readings.now a.rows.now a.cols.now a.values.now in
-    (begin g first_place (λ W h. []) u a.changes.now a.numbers.now a.counted.now, omega arith, omega arith, omega arith, omega arith, omega arith)
-
-pub run_one-requires-clause-i_in_bounds : goal.run_one-requires-clause-i_in_bounds
-run_one-requires-clause-i_in_bounds c = let t = c.loop-i-test in
-    let l = c.loop-i.invariant.0 in omega (arith, t)
-
-pub run_one-requires-clause-i_in_bounds_2 : goal.run_one-requires-clause-i_in_bounds_2
-run_one-requires-clause-i_in_bounds_2 c = let t = c.loop-i-test in
-    let l = c.loop-i.invariant.0 in omega (arith, t, l.numbers_kept, c.if-numbers-n)
-
-pub run_one-requires-clause-i_in_bounds_3 : goal.run_one-requires-clause-i_in_bounds_3
-run_one-requires-clause-i_in_bounds_3 c = let t = c.loop-i-test in
-    let l = c.loop-i.invariant.0 in omega (arith, t, l.counts_kept, c.if-counted-n)
-
-pub overflow_step-i : goal.overflow_step-i
-overflow_step-i c = omega (arith, c.loop-i-test, c)
-
-pub loop-i-smaller : goal.loop-i-smaller
-loop-i-smaller c = omega (arith, c.loop-i-test)
+    begin g first_place (λ W h. []) u a.changes.now a.numbers.now a.counted.now
 
 pub loop-i-preserved : goal.loop-i-preserved
 loop-i-preserved c = let a = c.args in
     let g = given a.wiring.now a.term_index.now a.term_coefficient.now a.solution.now in
-    let u = words a.readings.now a.rows.now a.cols.now a.values.now in
-    let t = c.loop-i-test in
-    let l = c.loop-i.invariant in (
-      more g first_place (λ W h. []) (omega (arith, t, c.if-numbers-n)) (omega (arith, t, c.if-counted-n)) l.0 c.run_one.ensures.values_after c.run_one.ensures.numbers_after c.run_one.ensures.counted_after,
-      omega (arith, t),
-      omega (arith, c.readings-1.given, l.2),
-      omega (arith, c.rows-1.given, l.3),
-      omega (arith, c.cols-1.given, l.4),
-      omega (arith, c.values-1.given, l.5),
-    )
+    more g first_place (λ W h. []) (omega (arith, c.loop-i-test, c.if-numbers-n)) (omega (arith, c.loop-i-test, c.if-counted-n)) c.loop-i.invariant c.change-answer.ensures.values_after c.number.ensures c.count.ensures
 
 pub returns : goal.returns
 returns c = let a = c.args in
     let g = given a.wiring.now a.term_index.now a.term_coefficient.now a.solution.now in
     let u = words a.readings.now a.rows.now a.cols.now a.values.now in
-    let l = c.loop-i.invariant in
-    run_done g first_place (λ W h. []) u a.changes.now a.numbers.now a.counted.now c.if-changes-ne0.false c.if-numbers-n.false c.if-counted-n.false refl l.1 (omega (arith, c.loop-i-test)) l.0
-
--- left (argument 10 of 17): omega (arith, c.before.loop.invariant.2)
--- left (argument 11 of 17): omega (arith, c.before.loop.invariant.3)
--- left (argument 12 of 17): omega (arith, c.before.loop.invariant.4)
--- left (argument 13 of 17): omega (arith, c.before.loop.invariant.5)
--- left (argument 14 of 17): omega (arith, c.before.loop.invariant.0.numbers_kept)
--- left (argument 15 of 17): omega (arith, c.before.loop.invariant.0.counts_kept)
+    run_done g first_place (λ W h. []) u a.changes.now a.numbers.now a.counted.now c.if-changes-ne0.false c.if-numbers-n.false c.if-counted-n.false (omega (arith, c.loop-i-test, c.loop-i.auto)) c.loop-i.invariant

@@ -1,8 +1,5 @@
 -- `change_run::run_changes` meets its contract: the loop goes by the run's last change. Assumes nothing.
-use mathlib.Core.Path.{◌≡◌}
 use mathlib.Core.List.{[]}
-use Prim.Native.Nat.{◌-◌, ◌≤◌}
-use lib.ListN.{length}
 use Rattle.kkt.specs.Slots.Rule.{first_place}
 use Rattle.job_book.specs.Book.{given, words}
 use Rattle.change_run.proofs.Run.{Going}
@@ -10,7 +7,3 @@ use Rattle.change_run.proofs.run_changes.Given as goal
 
 abbrev pub invariant-loop-i : goal.invariant-loop-i
 invariant-loop-i l = Going (given l.wiring l.term_index l.term_coefficient l.solution) first_place (λ W h. []) (words l.initial.readings l.initial.rows l.initial.cols l.initial.values) l.changes l.initial.numbers l.initial.counted l.i (words l.readings l.rows l.cols l.values) l.numbers l.counted
-    × (l.i ≤ l.n) × (length l.readings ≡ length l.initial.readings) × (length l.rows ≡ length l.initial.rows) × (length l.cols ≡ length l.initial.cols) × (length l.values ≡ length l.initial.values)
-
-abbrev pub decreases-loop-i : goal.decreases-loop-i
-decreases-loop-i l = l.n - l.i

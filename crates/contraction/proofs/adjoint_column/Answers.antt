@@ -8,18 +8,12 @@ use Rattle.contraction.proofs.adjoint_column.Goals as goal
 pub column-words-requires : goal.column-words-requires
 column-words-requires c = column_inside _ _ _ _ c.requires.c_lt_columns.0 c.requires.columns_in_bounds.0
 
-pub gather-g-requires : goal.gather-g-requires
-gather-g-requires c = let e = column_long _ _ _ (column_inside _ _ _ _ c.requires.c_lt_columns.0 c.requires.columns_in_bounds.0) in
+pub gather-entries-requires : goal.gather-entries-requires
+gather-entries-requires c = let e = column_long _ _ _ (column_inside _ _ _ _ c.requires.c_lt_columns.0 c.requires.columns_in_bounds.0) in
     (rw c.column-words.ensures (le_of_eq (sym e)), omega arith)
-
-pub contract_column-requires-clause-gathers : goal.contract_column-requires-clause-gathers
-contract_column-requires-clause-gathers c = let e = column_long _ _ _ (column_inside _ _ _ _ c.requires.c_lt_columns.0 c.requires.columns_in_bounds.0) in c.gather-g.ensures.gathers
 
 pub contract_column-requires-clause-dim_in_bounds : goal.contract_column-requires-clause-dim_in_bounds
 contract_column-requires-clause-dim_in_bounds c = let e = column_long _ _ _ (column_inside _ _ _ _ c.requires.c_lt_columns.0 c.requires.columns_in_bounds.0) in (rw c.column-words.ensures (le_of_eq (sym e)), c.requires.columns_in_bounds.1)
-
-pub contract_column-requires-clause-c_lt_columns : goal.contract_column-requires-clause-c_lt_columns
-contract_column-requires-clause-c_lt_columns c = let e = column_long _ _ _ (column_inside _ _ _ _ c.requires.c_lt_columns.0 c.requires.columns_in_bounds.0) in c.requires.c_lt_columns
 
 pub returns : goal.returns
 returns c = rw (← c.column-words.ensures) c.contract_column.ensures

@@ -1,6 +1,5 @@
 -- `contraction::adjoint_word` meets its contract. The loop's invariant: the sum over the first r words. Assumes nothing.
 use mathlib.Core.Path.{◌≡◌, ◌∙◌}
-use Prim.Native.Nat.{◌-◌}
 use native.Mathlib.Omega.{arith}
 use Rattle.sequence.proofs.Lists.{turns_none, turns_more}
 use Rattle.contraction.specs.Contraction.{gathered, adjoint_word}
@@ -9,14 +8,14 @@ use Rattle.contraction.proofs.adjoint_word.Goals as goal
 
 pub loop-r-init : goal.loop-r-init
 unfolding gathered
-loop-r-init c = (turns_none _ _, omega arith)
+loop-r-init c = turns_none _ _
 
 pub loop-r-preserved : goal.loop-r-preserved
 unfolding gathered
 loop-r-preserved c = let l = c.loop-r in
-    (elim c.if-v.branch [ then-v w ↦ w.sum-is ∙ rw (turns_more, l.invariant.0, w.if-v.true) | else-v w ↦ w.sum-is ∙ rw (turns_more, l.invariant.0, w.if-v.false) ], omega arith)
+    elim c.if-v.branch [ then-v w ↦ w.sum-is ∙ rw (turns_more, l.invariant, w.if-v.true) | else-v w ↦ w.sum-is ∙ rw (turns_more, l.invariant, w.if-v.false) ]
 
 pub returns : goal.returns
 unfolding adjoint_word
 returns c = let e : c.loop-r.r ≡ c.args.dim = omega arith in
-    rw (rw e at c.loop-r.invariant.0)
+    rw (rw e at c.loop-r.invariant)

@@ -1,7 +1,7 @@
 -- `contraction::contract_columns` meets its contract. The loop's invariant: each element's first c words are stored. Assumes nothing.
 use mathlib.Core.Path.{◌≡◌, refl, ◌∙◌}
 use mathlib.Core.List.{List}
-use Prim.Native.Nat.{ℕ, ◌-◌}
+use Prim.Native.Nat.{ℕ}
 use native.Mathlib.Omega.{arith}
 use Rattle.sequence.specs.Lists.{each, front}
 use Rattle.contraction.proofs.Strides.{rows_none, rows_more, rows_front}
@@ -17,17 +17,11 @@ pub returns-then-elements-eq0 : goal.returns-then-elements-eq0
 returns-then-elements-eq0 c = no_words _ _ _ c.if-elements-eq0.true
 
 pub loop-c-init : goal.loop-c-init
-loop-c-init c = (rows_none _ _ _ _, refl, omega arith)
-
-pub adjoint_column-requires-clause-columns_in_bounds : goal.adjoint_column-requires-clause-columns_in_bounds
-adjoint_column-requires-clause-columns_in_bounds c = c.requires.columns_in_bounds
-
-pub adjoint_column-requires-clause-c_lt_columns : goal.adjoint_column-requires-clause-c_lt_columns
-adjoint_column-requires-clause-c_lt_columns c = (c.loop-c-test.true, omega arith)
+loop-c-init c = (rows_none _ _ _ _, refl)
 
 pub loop-c-preserved : goal.loop-c-preserved
 loop-c-preserved c = let l = c.loop-c in
-    (c.adjoint_column.ensures ∙ rw l.invariant.0 (rows_more _ _ _ _ _ c.loop-c-test.true), omega arith, omega arith)
+    (c.adjoint_column.ensures ∙ rw l.invariant.0 (rows_more _ _ _ _ _ c.loop-c-test.true), omega arith)
 
 pub returns : goal.returns
 returns c = let l = c.loop-c in

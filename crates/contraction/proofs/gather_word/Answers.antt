@@ -1,14 +1,9 @@
 -- `contraction::gather_word` meets its contract: an entry more, or the same entries. Assumes nothing.
-use native.Mathlib.Omega.{arith}
-use lib.ListN.{length-set}
 use Rattle.contraction.proofs.Gathers.{skip, more}
 use Rattle.contraction.proofs.gather_word.Goals as goal
 
 pub returns-then-v-clause-gathers_2 : goal.returns-then-v-clause-gathers_2
 returns-then-v-clause-gathers_2 c = more c.requires.gathers c.requires.n_in_bounds.0 c.requires.n_in_bounds.1 c.if-v.true
-
-pub returns-then-v-clause-rows_len_unchanged : goal.returns-then-v-clause-rows_len_unchanged
-returns-then-v-clause-rows_len_unchanged c = (simp length-set, simp length-set, omega arith)
 
 pub returns-clause-gathers_2 : goal.returns-clause-gathers_2
 returns-clause-gathers_2 c = skip c.requires.gathers c.if-v.false

@@ -1,5 +1,5 @@
 -- `kkt_cells::keep_sums` meets its contract: a bus's sums more each turn, and where the next one's start. Assumes nothing.
-use Prim.Native.Nat.{◌+◌, ◌-◌, ◌<◌}
+use Prim.Native.Nat.{◌+◌, ◌<◌}
 use mathlib.Core.Path.{refl, ◌∙◌}
 use native.Mathlib.Omega.{arith}
 use lib.ListN.{length-set}
@@ -74,9 +74,3 @@ returns c = let i = c.loop-j.invariant in
     c.requires.readings_laid.few
     (λ j h. i.1 j (omega (arith, c.loop-j-test)))
     i.7
-
--- left (argument 12 of 19): c.before.loop.invariant.4
--- left (argument 13 of 19): c.before.loop.invariant.5
--- left (argument 15 of 19): c.before.loop.invariant.0.rows_kept
--- left (argument 16 of 19): c.before.loop.invariant.0.cols_kept
--- left (argument 17 of 19): c.before.loop.invariant.0.values_kept

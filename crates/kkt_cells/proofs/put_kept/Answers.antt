@@ -1,16 +1,17 @@
 -- `kkt_cells::put_kept` meets its contract: a kept sum more each turn, and all of them are the column's entries. Assumes nothing.
-use Prim.Native.Nat.{◌-◌, ◌≤◌}
+use mathlib.Core.Path.{ap}
+use Prim.Native.Nat.{ℕ, ◌≤◌}
 use native.Mathlib.Omega.{arith}
 use Rattle.sequence.proofs.Sheets.{put_of}
 use Rattle.kkt_cells.proofs.Cells.{replay_begin, replay_more, to_fits, bus_low, replayed_less, replayed_as_is}
 use Rattle.kkt_cells.proofs.put_kept.Goals as goal
 use Rattle.kkt_cells.proofs.put_kept.Goals.{then-less, else-less}
 
-pub overflow_add-col : goal.overflow_add-col
-overflow_add-col c = omega (arith, c.start-nu_bal.ensures, c.requires.lent.wired.laid.few, c.requires.j_lt_buses)
+pub overflow_add-from-else-less : goal.overflow_add-from-else-less
+overflow_add-from-else-less c = omega (arith, c.start-nu_bal.ensures, c.requires.lent.wired.laid.few, c.requires.j_lt_buses)
 
-pub overflow_add-col-then-less : goal.overflow_add-col-then-less
-overflow_add-col-then-less c = omega (arith, c.start-va.ensures, c.requires.lent.wired.laid.few, c.requires.j_lt_buses)
+pub overflow_add-from : goal.overflow_add-from
+overflow_add-from c = omega (arith, c.start-va.ensures, c.requires.lent.wired.laid.few, c.requires.j_lt_buses)
 
 pub bounds-starts-j : goal.bounds-starts-j
 bounds-starts-j c = omega (arith, c.requires.kept.starts_fit, c.requires.j_lt_buses)
@@ -26,14 +27,14 @@ bounds-starts-j-2 c = omega (arith, c.requires.kept.starts_fit, c.requires.j_lt_
 
 pub loop-t-init : goal.loop-t-init
 loop-t-init c = let f = to_fits c.requires.kept _ c.requires.j_lt_buses.0 c.wide-first.ensures.0 c.wide-to.ensures.0 in
-    (replay_begin c.args.less c.if-less.from c.if-less.col c.args.buses.now c.args.sums.now c.wide-first.result, omega arith, omega arith, f.0, f.1, f.2, f.3)
+    (replay_begin c.args.less c.if-less.from.0 c.if-less.from.1 c.args.buses.now c.args.sums.now c.wide-first.result, omega arith, omega arith, f.0, f.1, f.2, f.3)
 
 pub cell_item-requires : goal.cell_item-requires
 cell_item-requires c = let t = c.loop-t-test in
     let b = c.start-nu_bal.ensures in
     let a = c.start-va.ensures in
     let few = c.requires.lent.wired.laid.few in
-    let z : (c.if-less.from ≤ 0x2_0000) × (c.if-less.col ≤ 0x2_0000) = elim c.if-less.branch [ then-less w ↦ omega (arith, w.from-is, w.col-is, a, b, few, c.requires.j_lt_buses) | else-less w ↦ omega (arith, w.from-is, w.col-is, a, b, few, c.requires.j_lt_buses) ] in
+    let z : (c.if-less.from.0 ≤ 0x2_0000) × (c.if-less.from.1 ≤ 0x2_0000) = elim c.if-less.branch [ then-less w ↦ rw w.from-is (omega (arith, a, b, few, c.requires.j_lt_buses)) | else-less w ↦ rw w.from-is (omega (arith, a, b, few, c.requires.j_lt_buses)) ] in
     let i = bus_low c.requires.kept _ c.requires.j_lt_buses.0 c.wide-first.ensures.0 c.wide-to.ensures.0 _ c.loop-t.invariant.2 t.true in
     (z.0, z.1, omega (arith, i, c.wide.ensures, few))
 
@@ -51,7 +52,7 @@ pub loop-t-preserved : goal.loop-t-preserved
 loop-t-preserved c = let w = c.wide.ensures.0 in
     let t = c.loop-t-test in
     let i = c.loop-t.invariant in (
-      replay_more c.args.less c.if-less.from c.if-less.col c.args.buses.now c.args.sums.now c.wide-first.result c.loop-t.t i.2 i.0 (put_of (rw w at c.cell_item.ensures) c.put-k.ensures.puts),
+      replay_more c.args.less c.if-less.from.0 c.if-less.from.1 c.args.buses.now c.args.sums.now c.wide-first.result c.loop-t.t i.2 i.0 (put_of (rw w at c.cell_item.ensures) c.put-k.ensures.puts),
       omega (arith, c.put-k.ensures.most, i.1, i.2),
       omega (arith, i.2),
       omega (arith, t),
@@ -66,8 +67,8 @@ returns-clause-puts c = let i = c.loop-t.invariant in
     let a = c.start-va.ensures.0 in
     let wa = c.wide-first.ensures.0 in
     let wb = c.wide-to.ensures.0 in elim c.if-less.branch [
-      | then-less w ↦ replayed_less c.requires.kept _ c.requires.j_lt_buses.0 wa wb _ _ c.args.less c.if-less.from c.if-less.col c.loop-t.t a b i.3 c.loop-t-test.false i.0 w.if-less.true w.from-is w.col-is
-      | else-less w ↦ replayed_as_is c.requires.kept _ c.requires.j_lt_buses.0 wa wb _ _ c.args.less c.if-less.from c.if-less.col c.loop-t.t a b i.3 c.loop-t-test.false i.0 w.if-less.false w.from-is w.col-is
+      | then-less w ↦ replayed_less c.requires.kept _ c.requires.j_lt_buses.0 wa wb _ _ c.args.less c.if-less.from.0 c.if-less.from.1 c.loop-t.t a b i.3 c.loop-t-test.false i.0 w.if-less.true (ap (λ (p : ℕ × ℕ). p.0) w.from-is) (ap (λ (p : ℕ × ℕ). p.1) w.from-is)
+      | else-less w ↦ replayed_as_is c.requires.kept _ c.requires.j_lt_buses.0 wa wb _ _ c.args.less c.if-less.from.0 c.if-less.from.1 c.loop-t.t a b i.3 c.loop-t-test.false i.0 w.if-less.false (ap (λ (p : ℕ × ℕ). p.0) w.from-is) (ap (λ (p : ℕ × ℕ). p.1) w.from-is)
     ]
 
 pub returns-clause-most : goal.returns-clause-most
@@ -76,7 +77,3 @@ returns-clause-most c = let i = c.loop-t.invariant in
     let a = c.start-va.ensures.0 in
     let wa = c.wide-first.ensures.0 in
     let wb = c.wide-to.ensures.0 in omega (arith, i.1, i.3, i.4)
-
--- left (argument 24 of 28): c.before.loop.invariant.0.rows_kept
--- left (argument 25 of 28): c.before.loop.invariant.0.cols_kept
--- left (argument 26 of 28): c.before.loop.invariant.0.values_kept

@@ -1,6 +1,6 @@
 -- `kkt_chains::put_bus_generators` meets its contract: the generators below j, where they are at the bus. Assumes nothing.
 -- the loop does not hold the counts: it is so for all whose chains these are
-use Prim.Native.Nat.{◌-◌, ◌<◌}
+use Prim.Native.Nat.{◌<◌}
 use mathlib.Core.List.{[], ◌∷◌}
 use native.Mathlib.Omega.{arith}
 use Rattle.sequence.proofs.Links.{head_of, next_of}

@@ -1,5 +1,5 @@
 -- `kkt_chains::put_ends` meets its contract: the ends below the chain's next, where they are at the bus. Assumes nothing.
-use Prim.Native.Nat.{◌-◌, ◌*◌, ◌<◌}
+use Prim.Native.Nat.{◌*◌, ◌<◌}
 use native.Mathlib.Omega.{arith}
 use Rattle.sequence.proofs.Links.{head_of, next_of}
 use Rattle.network.specs.Layout.{reading}
@@ -29,11 +29,8 @@ end_items-requires-clause-lent c = c.requires.lent
 pub end_items-requires-clause-j_lt_buses : goal.end_items-requires-clause-j_lt_buses
 end_items-requires-clause-j_lt_buses c = (c.requires.j_lt_buses.0, omega (arith, c.loop-end-test))
 
-pub put_three-k-requires-clause-room : goal.put_three-k-requires-clause-room
-put_three-k-requires-clause-room c = omega (arith, c.loop-end-test, c.loop-end, c.requires.j_lt_buses, c.requires.room, c.requires.lent.read.few)
-
-pub put_three-k-requires-clause-at_bound : goal.put_three-k-requires-clause-at_bound
-put_three-k-requires-clause-at_bound c = omega (arith, c.loop-end-test, c.loop-end, c.requires.j_lt_buses, c.requires.room, c.requires.lent.read.few)
+pub put_all-k-requires : goal.put_all-k-requires
+put_all-k-requires c = omega (arith, c.loop-end-test, c.loop-end, c.requires.j_lt_buses, c.requires.room, c.requires.lent.read.few)
 
 pub offset_bounds-next-end : goal.offset_bounds-next-end
 offset_bounds-next-end c = omega (arith, c.loop-end-test, c.requires.lent.read.few)
@@ -49,8 +46,8 @@ pub loop-end-preserved : goal.loop-end-preserved
 loop-end-preserved c = let b : c.loop-end.end < 2 * c.args.c.branches = omega (arith, c.loop-end-test) in
     let e = c.loop-end.invariant.3 b in
     let f = next_of c.args.j c.loop-end.end _ c.requires.chains.links b e c.wide-end-in-loop-end.ensures.0 in (
-      chain_more _ _ _ _ _ _ e f c.loop-end.invariant.0 (puts_three _ _ _ (at_end c.args.c c.args.wiring.now c.args.j c.loop-end.end) (omega arith) c.end_items.ensures c.put_three-k.ensures.puts),
-      omega (arith, c.put_three-k.ensures.most, c.loop-end.invariant.1, f.low),
+      chain_more _ _ _ _ _ _ e f c.loop-end.invariant.0 (puts_three _ _ _ (at_end c.args.c c.args.wiring.now c.args.j c.loop-end.end) (omega arith) c.end_items.ensures c.put_all-k.ensures.puts),
+      omega (arith, c.put_all-k.ensures.most, c.loop-end.invariant.1, f.low),
       f.high,
       f.hit,
     )

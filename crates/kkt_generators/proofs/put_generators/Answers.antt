@@ -1,6 +1,6 @@
 -- `kkt_generators::put_generators` meets its contract: a generator more each turn, its rank and its first segment carried along. Assumes nothing.
 use mathlib.Core.Path.{refl}
-use Prim.Native.Nat.{◌-◌, ◌<◌}
+use Prim.Native.Nat.{◌<◌}
 use native.Mathlib.Omega.{arith}
 use Rattle.sequence.proofs.Sheets.{room_kept}
 use Rattle.sequence.proofs.Lists.{before_none}

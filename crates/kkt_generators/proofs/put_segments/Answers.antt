@@ -1,7 +1,5 @@
 -- `kkt_generators::put_segments` meets its contract: a segment more each turn. Assumes nothing.
-use Prim.Native.Nat.{◌-◌}
 use native.Mathlib.Omega.{arith}
-use Rattle.sequence.proofs.Sheets.{room_kept}
 use Rattle.model.proofs.Runs.{segments_inside}
 use Rattle.kkt_index.proofs.Segments.{segment_inside}
 use Rattle.kkt.proofs.Emitted.{puts_begin, puts_more, puts_done, puts_three}
@@ -20,14 +18,11 @@ pub segment_items-requires-clause-j_lt_generators : goal.segment_items-requires-
 segment_items-requires-clause-j_lt_generators c = let e = c.requires.j_lt_generators in
     let i = segment_inside c.requires.lent.wired c.args.j c.loop-t.t e.0 (rw e.3 at c.loop-t-test.true) in (e.0, rw (e.1, c.requires.lent.pieces_are) i.1, rw e.2 i.0)
 
-pub put_three-k-requires-clause-room : goal.put_three-k-requires-clause-room
-put_three-k-requires-clause-room c = let i = c.loop-t.invariant in room_kept c.requires.room i.0 (omega (arith, i, c.requires.at_bound))
-
-pub put_three-k-requires-clause-at_bound : goal.put_three-k-requires-clause-at_bound
-put_three-k-requires-clause-at_bound c = let i = c.loop-t.invariant in omega (arith, i, c.requires.at_bound)
+pub put_all-k-requires : goal.put_all-k-requires
+put_all-k-requires c = omega (arith, c.loop-t.invariant, c.requires.room, c.requires.at_bound)
 
 pub loop-t-preserved : goal.loop-t-preserved
-loop-t-preserved c = (puts_more _ _ _ _ c.loop-t.t c.loop-t.invariant.0 (puts_three _ _ _ _ (segment_short c.args.u c.args.j c.args.g _) c.segment_items.ensures c.put_three-k.ensures.puts), omega (arith, c, c), omega (arith, c, c), c.loop-t.invariant.3)
+loop-t-preserved c = (puts_more _ _ _ _ c.loop-t.t c.loop-t.invariant.0 (puts_three _ _ _ _ (segment_short c.args.u c.args.j c.args.g _) c.segment_items.ensures c.put_all-k.ensures.puts), omega (arith, c, c), omega (arith, c, c), c.loop-t.invariant.3)
 
 pub returns-clause-puts : goal.returns-clause-puts
 returns-clause-puts c = let e = c.requires.j_lt_generators in rw (← e.1, ← e.2, ← e.3) (puts_done _ _ _ _ c.loop-t.invariant.2 c.loop-t-test.false c.loop-t.invariant.0)

@@ -1,6 +1,5 @@
 -- `kkt_index::linear_rows` meets its contract. The loop's invariant: the rows of the linear rows passed. Assumes nothing.
 use mathlib.Core.Path.{◌≡◌, refl}
-use Prim.Native.Nat.{◌-◌}
 use native.Mathlib.Omega.{arith}
 use Rattle.sequence.proofs.Lists.{before_none, before_more}
 use Rattle.kkt_index.specs.Index.{linear_start}

@@ -1,8 +1,6 @@
 -- `kkt_list::put_blocks` meets its contract: a block more each turn. Assumes nothing.
-use Prim.Native.Nat.{◌-◌}
 use native.Mathlib.Omega.{arith}
 use Rattle.sequence.proofs.Sheets.{room_kept}
-use Rattle.kkt.specs.Slots.{emission_at}
 use Rattle.kkt.proofs.Emitted.{puts_begin, puts_more, puts_done}
 use Rattle.kkt_list.proofs.put_blocks.Goals as goal
 
@@ -42,6 +40,3 @@ returns-clause-puts c = let i = c.loop-k.invariant in puts_done _ _ _ _ (omega (
 
 pub returns-clause-most : goal.returns-clause-most
 returns-clause-most c = let i = c.loop-k.invariant in omega (arith, i)
-
--- left (argument 5 of 12): omega (arith, c.before.before.before.before.before.before.before.before.before.before.before.before.loop.invariant)
--- left (argument 6 of 12): omega (arith, c.before.before.before.before.before.before.before.before.before.before.before.before.loop.invariant, c.before.before.before.before.before.before.before.before.before.before.before.loop-test)

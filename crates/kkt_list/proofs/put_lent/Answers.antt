@@ -85,15 +85,3 @@ returns-clause-puts c = let a = c.args in by_starts c.index_of-x.ensures a.readi
 pub returns-clause-most : goal.returns-clause-most
 unfolding kkt_matrix_list slots
 returns-clause-most c = let a = c.args in c.put_blocks.ensures.most
-
--- left (argument 4 of 16): omega (arith, c.before.before.before.before.before.before.before.before.before.before.before.before.before.before.before.before.before.before.before.before.before.before.before.before.before.before.before.before.before.before.before.before.before.before.before.before.before.before.before.before.before.link_ends.auto)
--- left (argument 5 of 16): omega (arith, c.before.before.before.before.before.before.before.before.before.before.before.before.before.before.before.before.before.before.before.before.before.before.before.before.before.before.before.before.before.before.before.before.before.before.before.before.before.before.before.before.before.link_ends.auto)
--- left (argument 6 of 16): omega (arith, c.before.before.before.before.before.before.before.before.before.before.before.before.before.before.before.before.before.before.before.before.before.before.before.before.before.before.before.before.keep_sums.auto)
--- left (argument 7 of 16): omega (arith, c.before.before.before.before.before.before.before.before.before.before.before.before.before.before.before.before.before.before.before.before.before.before.before.before.before.before.before.before.keep_sums.auto)
--- left (argument 8 of 16): omega (arith, c.before.before.before.before.before.before.before.before.before.before.before.before.before.before.before.before.before.before.before.before.before.before.before.before.before.before.before.before.keep_sums.auto)
--- left (argument 9 of 16): omega (arith, c.before.before.before.before.before.before.before.before.before.before.before.before.before.before.before.before.before.before.before.before.before.before.before.before.before.before.before.before.keep_sums.auto)
--- left (argument 10 of 16): omega (arith, c.before.before.before.before.before.before.before.before.before.before.before.before.before.before.before.before.before.before.before.before.before.before.before.before.before.before.before.before.keep_sums.auto)
--- left (argument 11 of 16): omega (arith, c.before.before.before.before.before.before.before.before.before.before.before.before.before.before.before.before.before.before.before.before.before.before.before.before.before.before.before.before.keep_sums.auto)
--- left (argument 12 of 16): omega (arith, c.before.before.before.before.before.before.put_blocks.auto)
--- left (argument 13 of 16): omega (arith, c.before.before.before.before.before.before.put_blocks.auto)
--- left (argument 14 of 16): omega (arith, c.before.before.before.before.before.before.put_blocks.auto)

@@ -1,6 +1,5 @@
 -- `kkt_rows::put_rows` meets its contract: a linear row more each turn. Assumes nothing.
 use mathlib.Core.Path.{refl}
-use Prim.Native.Nat.{◌-◌}
 use native.Mathlib.Omega.{arith}
 use Rattle.sequence.proofs.Sheets.{room_kept}
 use Rattle.network.specs.Layout.{reading}
@@ -90,7 +89,3 @@ returns-clause-puts c = let v = c.loop-q.invariant in
 pub returns-clause-most : goal.returns-clause-most
 returns-clause-most c = let v = c.loop-q.invariant in
     let a = c.args in omega (arith, v.1, v.2, v.3, c.requires.lent.wired.laid.few.rows)
-
--- left (argument 12 of 16): c.before.loop.invariant.0.rows_kept
--- left (argument 13 of 16): c.before.loop.invariant.0.cols_kept
--- left (argument 14 of 16): c.before.loop.invariant.0.values_kept

@@ -1,9 +1,9 @@
 -- `kkt_rows::put_terms` meets its contract: a pair more each turn. Assumes nothing.
-use Prim.Native.Nat.{◌+◌, ◌-◌}
+use Prim.Native.Nat.{◌+◌}
 use native.Mathlib.Omega.{arith}
 use Rattle.network.specs.Layout.{reading}
 use Rattle.solution.specs.Sheet.{solved}
-use Rattle.sequence.proofs.Sheets.{room_kept, begin, more}
+use Rattle.sequence.proofs.Sheets.{begin, more}
 use Rattle.kkt_rows.proofs.Pairs.{pair_put, pairs_done}
 use Rattle.kkt_rows.proofs.put_terms.Goals as goal
 
@@ -40,11 +40,8 @@ entry-requires-in-loop-t-clause-narrow c = c.requires.lent.narrow
 pub entry-requires-in-loop-t-clause-i_bound : goal.entry-requires-in-loop-t-clause-i_bound
 entry-requires-in-loop-t-clause-i_bound c = (omega (arith, c.wide-i.ensures, c.requires.by_index c.loop-t.t c.loop-t-test.true), omega (arith, c.requires.dual_value.1))
 
-pub put_two-k-requires-clause-room : goal.put_two-k-requires-clause-room
-put_two-k-requires-clause-room c = room_kept c.requires.room c.loop-t.invariant.0 (omega (arith, c.loop-t.invariant.1, c.loop-t.invariant.2, c.requires.count_in_bounds, c.requires.by_index, c.requires.dual_value, c.requires.room))
-
-pub put_two-k-requires-clause-at_bound : goal.put_two-k-requires-clause-at_bound
-put_two-k-requires-clause-at_bound c = omega (arith, c.loop-t.invariant.1, c.loop-t.invariant.2, c.requires.count_in_bounds, c.requires.by_index, c.requires.dual_value, c.requires.room)
+pub put_all-k-requires : goal.put_all-k-requires
+put_all-k-requires c = omega (arith, c.loop-t.invariant, c.requires.count_in_bounds, c.requires.dual_value, c.requires.room)
 
 pub overflow_step-t : goal.overflow_step-t
 overflow_step-t c = omega (arith, c.loop-t-test, c.requires.count_in_bounds)
@@ -54,8 +51,8 @@ loop-t-smaller c = omega (arith, c.loop-t-test)
 
 pub loop-t-preserved : goal.loop-t-preserved
 loop-t-preserved c = let s = c.args in (
-  more _ _ c.loop-t.invariant.0 (pair_put s.x s.term_index.now s.term_coefficient.now s.s s.row s.b (s.start + c.loop-t.t) s.dual c.wide-i.ensures.0 c.row_times.ensures c.column_times.ensures c.entry.ensures c.entry-in-loop-t.ensures c.put_two-k.ensures.puts),
-  omega (arith, c.put_two-k.ensures.most, c.loop-t.invariant.1),
+  more _ _ c.loop-t.invariant.0 (pair_put s.x s.term_index.now s.term_coefficient.now s.s s.row s.b (s.start + c.loop-t.t) s.dual c.wide-i.ensures.0 c.row_times.ensures c.column_times.ensures c.entry.ensures c.entry-in-loop-t.ensures c.put_all-k.ensures.puts),
+  omega (arith, c.put_all-k.ensures.most, c.loop-t.invariant.1),
   omega (arith, c.loop-t-test),
 )
 
@@ -64,7 +61,3 @@ returns-clause-puts c = let a = c.args in pairs_done a.x (reading a.c a.readings
 
 pub returns-clause-most : goal.returns-clause-most
 returns-clause-most c = let a = c.args in omega (arith, c.loop-t.invariant.1, c.loop-t.invariant.2)
-
--- left (argument 18 of 22): c.before.loop.invariant.0.rows_kept
--- left (argument 19 of 22): c.before.loop.invariant.0.cols_kept
--- left (argument 20 of 22): c.before.loop.invariant.0.values_kept

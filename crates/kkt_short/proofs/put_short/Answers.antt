@@ -1,6 +1,5 @@
 -- `kkt_short::put_short` meets its contract: a column more each turn. Assumes nothing.
 use mathlib.Core.Path.{refl}
-use Prim.Native.Nat.{◌-◌}
 use native.Mathlib.Omega.{arith}
 use Rattle.kkt.proofs.Emitted.{puts_begin, puts_more, puts_done, puts_three}
 use Rattle.kkt_short.proofs.Columns.{short_holds, few_turns, few_slots}
@@ -18,27 +17,17 @@ short_column-requires-clause-b_value c = c.requires.b_value
 pub short_column-requires-clause-i_bound : goal.short_column-requires-clause-i_bound
 short_column-requires-clause-i_bound c = omega (arith, c.turns_of-to.ensures, c.loop-i-test)
 
-pub put_three-k-requires-clause-room : goal.put_three-k-requires-clause-room
-put_three-k-requires-clause-room c = let h = few_turns c.args.c c.args.b c.requires.lent.read.few in
-    let r = c.requires.room in record {
-      in_rows = omega (arith, c.loop-i.invariant.3, r.in_rows);
-      in_cols = omega (arith, c.loop-i.invariant.4, r.in_cols);
-      in_values = omega (arith, c.loop-i.invariant.5, r.in_values);
-      far = omega (arith, c.loop-i.invariant.1, c.loop-i.invariant.2, c.turns_of-to.ensures, h, c.requires.at_bound);
-    }
-
-pub put_three-k-requires-clause-at_bound : goal.put_three-k-requires-clause-at_bound
-put_three-k-requires-clause-at_bound c = let h = few_turns c.args.c c.args.b c.requires.lent.read.few in
-    let r = c.requires.room in omega (arith, c.loop-i.invariant.1, c.loop-i.invariant.2, c.turns_of-to.ensures, h, c.requires.at_bound)
+pub put_all-k-requires : goal.put_all-k-requires
+put_all-k-requires c = omega (arith, c.loop-i.invariant, c.turns_of-to.ensures, few_turns c.args.c c.args.b c.requires.lent.read.few, c.requires.room, c.requires.at_bound)
 
 pub loop-i-preserved : goal.loop-i-preserved
 loop-i-preserved c = let h = short_holds c.args.b c.requires.b_value in (
-  λ s n w. puts_more _ _ _ _ _ (c.loop-i.invariant.0 s n w) (puts_three _ _ _ _ (few_slots s c.args.b _ h) (c.short_column.ensures s n w) c.put_three-k.ensures.puts),
-  omega (arith, c.put_three-k.ensures.most, c.loop-i.invariant.1),
+  λ s n w. puts_more _ _ _ _ _ (c.loop-i.invariant.0 s n w) (puts_three _ _ _ _ (few_slots s c.args.b _ h) (c.short_column.ensures s n w) c.put_all-k.ensures.puts),
+  omega (arith, c.put_all-k.ensures.most, c.loop-i.invariant.1),
   omega (arith, c.loop-i-test.true),
-  omega (arith, c.put_three-k.ensures.puts.rows_kept, c.loop-i.invariant.3),
-  omega (arith, c.put_three-k.ensures.puts.cols_kept, c.loop-i.invariant.4),
-  omega (arith, c.put_three-k.ensures.puts.values_kept, c.loop-i.invariant.5),
+  omega (arith, c.put_all-k.ensures.puts.rows_kept, c.loop-i.invariant.3),
+  omega (arith, c.put_all-k.ensures.puts.cols_kept, c.loop-i.invariant.4),
+  omega (arith, c.put_all-k.ensures.puts.values_kept, c.loop-i.invariant.5),
 )
 
 pub returns-clause-puts : goal.returns-clause-puts
@@ -48,7 +37,3 @@ returns-clause-puts c = let h = few_turns c.args.c c.args.b c.requires.lent.read
 pub returns-clause-most : goal.returns-clause-most
 returns-clause-most c = let h = few_turns c.args.c c.args.b c.requires.lent.read.few in
     let e = c.turns_of-to.ensures in omega (arith, c.loop-i.invariant.1, c.loop-i.invariant.2, e, h)
-
--- left (argument 9 of 13): c.before.loop.invariant.3
--- left (argument 10 of 13): c.before.loop.invariant.4
--- left (argument 11 of 13): c.before.loop.invariant.5

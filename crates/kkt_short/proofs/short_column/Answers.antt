@@ -1,5 +1,4 @@
 -- `kkt_short::short_column` meets its contract, block by block: the others have no short columns. Assumes nothing.
-use Rattle.kkt_short.proofs.Columns.{short_holds}
 use Rattle.kkt.specs.Slots.{columns}
 use Rattle.kkt_short.proofs.short_column.Goals as goal
 
@@ -122,21 +121,3 @@ returns-in-NuFlow c = λ s n w. rw (c.in-NuFlow.is, n, w) c.nu_flow_column.ensur
 pub returns-in-Eta : goal.returns-in-Eta
 unfolding columns
 returns-in-Eta c = λ s n w. rw (c.in-Eta.is, n, w) c.eta_column.ensures
-
-pub returns-in-Va : goal.returns-in-Va
-returns-in-Va c = λ s n w. absurd (rw c.in-Va.is at (short_holds c.args.b c.requires.b_value))
-
-pub returns-in-Pg : goal.returns-in-Pg
-returns-in-Pg c = λ s n w. absurd (rw c.in-Pg.is at (short_holds c.args.b c.requires.b_value))
-
-pub returns-in-Cost : goal.returns-in-Cost
-returns-in-Cost c = λ s n w. absurd (rw c.in-Cost.is at (short_holds c.args.b c.requires.b_value))
-
-pub returns-in-Segments : goal.returns-in-Segments
-returns-in-Segments c = λ s n w. absurd (rw c.in-Segments.is at (short_holds c.args.b c.requires.b_value))
-
-pub returns-in-Linear : goal.returns-in-Linear
-returns-in-Linear c = λ s n w. absurd (rw c.in-Linear.is at (short_holds c.args.b c.requires.b_value))
-
-pub returns-in-NuBal : goal.returns-in-NuBal
-returns-in-NuBal c = λ s n w. absurd (rw c.in-NuBal.is at (short_holds c.args.b c.requires.b_value))

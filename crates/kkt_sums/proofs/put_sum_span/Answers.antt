@@ -1,9 +1,8 @@
 -- `kkt_sums::put_sum_span` meets its contract: a sum more each turn. Assumes nothing.
-use Prim.Native.Nat.{◌-◌}
 use mathlib.Core.Bool.{false}
 use native.Mathlib.Omega.{arith}
 use Rattle.sequence.proofs.Sheets.{begin, more, done, none, put_of}
-use Rattle.kkt.specs.Walks.{sum_item, span_of}
+use Rattle.kkt.specs.Walks.{span_of}
 use Rattle.kkt_sums.proofs.Sums.{span_none}
 use Rattle.kkt_sums.proofs.put_sum_span.Goals as goal
 

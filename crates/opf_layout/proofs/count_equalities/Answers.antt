@@ -1,15 +1,10 @@
 -- `opf_layout::count_equalities` meets its contract. The loop's invariant: the equalities of the linear rows passed. Assumes nothing.
 use mathlib.Core.Path.{◌≡◌, refl}
-use Prim.Native.Nat.{◌-◌}
 use native.Mathlib.Omega.{arith}
 use Rattle.sequence.proofs.Lists.{before_none, before_more}
-use Rattle.model.specs.Rows.{row_limits}
 use Rattle.opf_layout.specs.Layout.{equality_rank}
 use Rattle.opf_layout.proofs.Counting.{equalities_few}
 use Rattle.opf_layout.proofs.count_equalities.Goals as goal
-
-pub overflow_add-count : goal.overflow_add-count
-overflow_add-count c = omega (arith, c.equalities_of-count.ensures, equalities_few c.row_limits.result)
 
 pub loop-q-preserved : goal.loop-q-preserved
 loop-q-preserved c = (omega arith, refl, rw (before_more, ← c.loop-q.invariant.2, c.equalities_of-count.ensures, c.row_limits.ensures), omega (arith, c.equalities_of-count.ensures, equalities_few c.row_limits.result))

@@ -1,12 +1,10 @@
 -- `opf_matrix::put_group` meets its contract: a turn more each time. Assumes nothing.
-use Prim.Native.Nat.{◌-◌}
 use native.Mathlib.Omega.{arith}
 use Rattle.network.specs.Layout.{reading}
-use Rattle.sequence.proofs.Sheets.{room_kept}
 use Rattle.opf_layout.specs.Layout.{column_in, row_in}
 use Rattle.opf_assembly.specs.Assembly.{blank}
 use Rattle.opf_matrix.specs.Groups.{entries_of}
-use Rattle.opf_program.proofs.Triplets.{puts_begin, puts_more, puts_done}
+use Rattle.opf_program.proofs.Triplets.{puts_begin, puts_more}
 use Rattle.opf_matrix.proofs.Turns.{ranks_none, ranks_few, few_of}
 use Rattle.opf_matrix.proofs.Whole.{size_few}
 use Rattle.opf_matrix.proofs.put_group.Goals as goal
@@ -15,20 +13,6 @@ pub loop-i-init : goal.loop-i-init
 loop-i-init c = let a = c.args in
     (puts_begin (row_in a.lay) (column_in a.lay) (reading a.c a.readings.now) blank _, omega arith, omega arith, c.group_size-to.ensures, ranks_none a.c a.wiring.now a.readings.now a.g)
 
-pub put_turn-k-requires-clause-lent : goal.put_turn-k-requires-clause-lent
-put_turn-k-requires-clause-lent c = let a = c.args in
-    let l = c.loop-i in
-    let v = l.invariant in
-    let n = size_few c.requires.lent.wired.laid.few a.g in
-    let f = few_of v.4 (ranks_few a.readings.now c.requires.lent.wired a.g l.i (omega (arith, c.loop-i-test, v.3))) in c.requires.lent
-
-pub put_turn-k-requires-clause-termed : goal.put_turn-k-requires-clause-termed
-put_turn-k-requires-clause-termed c = let a = c.args in
-    let l = c.loop-i in
-    let v = l.invariant in
-    let n = size_few c.requires.lent.wired.laid.few a.g in
-    let f = few_of v.4 (ranks_few a.readings.now c.requires.lent.wired a.g l.i (omega (arith, c.loop-i-test, v.3))) in c.requires.termed
-
 pub put_turn-k-requires-clause-i_bound : goal.put_turn-k-requires-clause-i_bound
 put_turn-k-requires-clause-i_bound c = let a = c.args in
     let l = c.loop-i in
@@ -36,36 +20,11 @@ put_turn-k-requires-clause-i_bound c = let a = c.args in
     let n = size_few c.requires.lent.wired.laid.few a.g in
     let f = few_of v.4 (ranks_few a.readings.now c.requires.lent.wired a.g l.i (omega (arith, c.loop-i-test, v.3))) in (omega (arith, c.loop-i-test, v.3), v.4, f.0, f.1, f.2, omega (arith, v.1, v.2, v.3, n, c.requires.at_bound))
 
-pub put_turn-k-requires-clause-room : goal.put_turn-k-requires-clause-room
-put_turn-k-requires-clause-room c = let a = c.args in
-    let l = c.loop-i in
-    let v = l.invariant in
-    let n = size_few c.requires.lent.wired.laid.few a.g in
-    let f = few_of v.4 (ranks_few a.readings.now c.requires.lent.wired a.g l.i (omega (arith, c.loop-i-test, v.3))) in room_kept c.requires.room v.0 (omega (arith, v.1, v.2, v.3, n, c.requires.at_bound))
-
-pub advance-p-requires-clause-wiring_laid : goal.advance-p-requires-clause-wiring_laid
-advance-p-requires-clause-wiring_laid c = let a = c.args in
-    let l = c.loop-i in
-    let v = l.invariant in
-    let f = few_of v.4 (ranks_few a.readings.now c.requires.lent.wired a.g l.i (omega (arith, c.loop-i-test, v.3))) in c.requires.lent.wired.laid
-
-pub advance-p-requires-clause-readings_laid : goal.advance-p-requires-clause-readings_laid
-advance-p-requires-clause-readings_laid c = let a = c.args in
-    let l = c.loop-i in
-    let v = l.invariant in
-    let f = few_of v.4 (ranks_few a.readings.now c.requires.lent.wired a.g l.i (omega (arith, c.loop-i-test, v.3))) in c.requires.lent.read
-
 pub advance-p-requires-clause-i_bound : goal.advance-p-requires-clause-i_bound
 advance-p-requires-clause-i_bound c = let a = c.args in
     let l = c.loop-i in
     let v = l.invariant in
     let f = few_of v.4 (ranks_few a.readings.now c.requires.lent.wired a.g l.i (omega (arith, c.loop-i-test, v.3))) in (omega (arith, c.loop-i-test, v.3), v.4, f.0, f.1, f.2)
-
-pub overflow_step-i : goal.overflow_step-i
-overflow_step-i c = omega (arith, c.loop-i-test, c.loop-i.invariant.3, size_few c.requires.lent.wired.laid.few c.args.g)
-
-pub loop-i-smaller : goal.loop-i-smaller
-loop-i-smaller c = omega (arith, c.loop-i-test)
 
 pub loop-i-preserved : goal.loop-i-preserved
 loop-i-preserved c = let a = c.args in
@@ -77,15 +36,3 @@ loop-i-preserved c = let a = c.args in
       v.3,
       c.advance-p.ensures,
     )
-
-pub returns-clause-puts : goal.returns-clause-puts
-returns-clause-puts c = let a = c.args in
-    let v = c.loop-i.invariant in puts_done (row_in a.lay) (column_in a.lay) (reading a.c a.readings.now) blank _ (omega (arith, v.2, v.3)) (omega (arith, c.loop-i-test, v.3)) v.0
-
-pub returns-clause-most : goal.returns-clause-most
-returns-clause-most c = let a = c.args in
-    let v = c.loop-i.invariant in omega (arith, v.1, v.2, v.3, size_few c.requires.lent.wired.laid.few a.g)
-
--- left (argument 9 of 13): c.before.loop.invariant.0.rows_kept
--- left (argument 10 of 13): c.before.loop.invariant.0.cols_kept
--- left (argument 11 of 13): c.before.loop.invariant.0.values_kept

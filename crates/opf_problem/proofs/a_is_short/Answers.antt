@@ -5,6 +5,3 @@ use Rattle.opf_problem.proofs.a_is_short.Goals as goal
 
 pub returns-then-most_a-room : goal.returns-then-most_a-room
 returns-then-most_a-room c = let a = c.args in most_fits _ (most_a a.c) a.room (a_length a.c a.wiring.now a.readings.now a.term_index.now a.term_coefficient.now c.requires.wired) (rw c.most_a.ensures at c.if-most_a-room.true)
-
-pub returns : goal.returns
-returns c = rw c.count_a.ensures

@@ -1,18 +1,11 @@
 -- `opf_problem::count_p` meets its contract: a counting pass. Assumes nothing.
-use native.Mathlib.Omega.{arith}
 use Rattle.sequence.proofs.Sheets.{counted}
 use Rattle.opf_layout.specs.Layout.{active_of}
 use Rattle.opf_layout.proofs.Counting.{narrow}
 use Rattle.opf_problem.proofs.count_p.Goals as goal
 
-pub put_p-requires-clause-readings_laid : goal.put_p-requires-clause-readings_laid
-put_p-requires-clause-readings_laid c = let a = c.args in c.requires.read
-
 pub put_p-requires-clause-narrow : goal.put_p-requires-clause-narrow
 put_p-requires-clause-narrow c = let a = c.args in narrow a.c (active_of a.c a.wiring.now a.readings.now) a.lay c.requires.bounded c.requires.placed
-
-pub put_p-requires-clause-room : goal.put_p-requires-clause-room
-put_p-requires-clause-room c = let a = c.args in record { in_rows = omega arith; in_cols = omega arith; in_values = omega arith; far = omega arith }
 
 pub returns : goal.returns
 returns c = let a = c.args in (counted (c.put_p.ensures.puts (active_of a.c a.wiring.now a.readings.now) c.requires.placed)).0

@@ -1,5 +1,5 @@
 -- `opf_problem::is_short` meets its contract: a law for each return. Assumes nothing.
-use Rattle.opf_problem.proofs.Returns.{q_short, b_short, cones_short, p_short, a_decides}
+use Rattle.opf_problem.proofs.Returns.{q_short, b_short, cones_short, a_decides}
 use Rattle.opf_problem.proofs.is_short.Goals as goal
 
 pub returns-then-rooms-lay : goal.returns-then-rooms-lay
@@ -10,9 +10,6 @@ returns-then-rooms-lay-2 c = b_short c.requires c.args.rooms c.if-rooms-lay-2.tr
 
 pub returns-then-rooms-cone_count : goal.returns-then-rooms-cone_count
 returns-then-rooms-cone_count c = cones_short c.requires c.args.rooms c.cone_count.ensures c.if-rooms-cone_count.true
-
-pub returns-then-p_is_short : goal.returns-then-p_is_short
-returns-then-p_is_short c = p_short c.requires c.args.rooms c.p_is_short.ensures c.if-p_is_short.true
 
 pub returns : goal.returns
 returns c = a_decides c.requires c.args.rooms c.cone_count.ensures c.p_is_short.ensures c.a_is_short.ensures c.if-rooms-lay.false c.if-rooms-lay-2.false c.if-rooms-cone_count.false c.if-p_is_short.false

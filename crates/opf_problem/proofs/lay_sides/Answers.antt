@@ -7,7 +7,6 @@ use lib.ListN.{length}
 use Rattle.sequence.specs.Lists.{front}
 use Rattle.opf_layout.specs.Layout.{active_of}
 use Rattle.opf_sides.proofs.Cones.{cones_are, cones_narrow}
-use borrow.Author.Rules.{rules}
 use Rattle.opf_problem.proofs.lay_sides.Goals as goal
 
 pub put_cones-requires-clause-narrowed : goal.put_cones-requires-clause-narrowed
@@ -15,16 +14,6 @@ put_cones-requires-clause-narrowed c = let a = c.args in let t = active_of a.c a
 
 pub put_cones-requires-clause-lay_in_bounds : goal.put_cones-requires-clause-lay_in_bounds
 put_cones-requires-clause-lay_in_bounds c = let a = c.args in let t = active_of a.c a.wiring.now a.readings.now in omega (arith, ap (λ (l : List ℕ). length l) (cones_are a.c t a.lay c.requires.laid.placed), c.requires.readings_in_bounds.2)
-
--- left (no goal same-length): search rules
--- left (no goal same-length-2): search rules
--- left (no goal same-length-3): search rules
-
-pub returns-clause-q_after : goal.returns-clause-q_after
-returns-clause-q_after c = let a = c.args in c.put_q.ensures
-
-pub returns-clause-b_after : goal.returns-clause-b_after
-returns-clause-b_after c = let a = c.args in c.put_b.ensures
 
 pub returns-clause-sizes_after : goal.returns-clause-sizes_after
 returns-clause-sizes_after c = let a = c.args in c.put_cones.ensures ∙ ap (λ (l : List ℕ). front l a.sizes.now) (cones_are a.c (active_of a.c a.wiring.now a.readings.now) a.lay c.requires.laid.placed)

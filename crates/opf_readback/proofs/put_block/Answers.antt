@@ -1,17 +1,7 @@
--- `opf_readback::put_block` meets its contract: a word more each turn. Assumes nothing.
-use mathlib.Core.Path.{◌≡◌, refl}
-use Prim.Native.Nat.{◌-◌}
-use native.Mathlib.Omega.{arith}
-use Rattle.sens_snap.proofs.Stores.{none, more}
+-- `opf_readback::put_block` meets its contract: the block comes into the sheet as it is. Assumes nothing.
+use Rattle.opf_readback.proofs.Reading.{block_stored}
 use Rattle.opf_readback.proofs.put_block.Goals as goal
 
-pub loop-i-preserved : goal.loop-i-preserved
-loop-i-preserved c = (more _ c.loop-i.invariant.0 refl, omega arith)
-
 pub returns : goal.returns
-returns c = let e : c.loop-i.i ≡ c.args.count = omega arith in
-    let r = rw e at c.loop-i.invariant.0 in
-    r.is
-
-pub loop-i-init : goal.loop-i-init
-loop-i-init c = (none _ _ _, omega arith)
+returns c = let a = c.args in
+    block_stored a.from.now a.out.now a.start a.count a.at c.requires.count_in_bounds.0 c.requires.count_in_bounds_2.0 c.copy_from_slice.ensures.after

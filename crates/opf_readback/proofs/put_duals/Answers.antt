@@ -1,24 +1,11 @@
 -- `opf_readback::put_duals` meets its contract: a row more each turn, both ranks carried along. Assumes nothing.
-use mathlib.Core.Path.{◌≡◌, refl}
-use Prim.Native.Nat.{◌-◌, ◌<◌}
+use mathlib.Core.Path.{refl}
+use Prim.Native.Nat.{◌<◌}
 use native.Mathlib.Omega.{arith}
 use Rattle.sens_snap.proofs.Stores.{none, more}
 use Rattle.opf_layout.proofs.Counting.{equalities_few, inequalities_few}
-use Rattle.opf_readback.specs.Walks.{signed_of}
 use Rattle.opf_readback.proofs.Reading.{signed, equal_room, limit_room, equal_none, limit_none, equal_more, limit_more}
 use Rattle.opf_readback.proofs.put_duals.Goals as goal
-
-pub row_limits-limits-requires-clause-wiring_laid : goal.row_limits-limits-requires-clause-wiring_laid
-row_limits-limits-requires-clause-wiring_laid c = c.requires.wiring_laid
-
-pub row_limits-limits-requires-clause-readings_laid : goal.row_limits-limits-requires-clause-readings_laid
-row_limits-limits-requires-clause-readings_laid c = c.requires.readings_laid
-
-pub overflow_add-equal : goal.overflow_add-equal
-overflow_add-equal c = omega (arith, c.loop-q.invariant, c.loop-q-test.true, c.requires.wiring_laid.few, c.requires.rows_in_bounds)
-
-pub overflow_add-limit : goal.overflow_add-limit
-overflow_add-limit c = omega (arith, c.loop-q.invariant, c.loop-q-test.true, c.requires.wiring_laid.few, c.requires.rows_in_bounds_2)
 
 pub signed_of-requires : goal.signed_of-requires
 signed_of-requires c = let a = c.args in
@@ -29,12 +16,6 @@ signed_of-requires c = let a = c.args in
       omega (arith, limit_room a.c a.wiring.now a.readings.now l.q t h l.invariant.4, c.requires.rows_in_bounds_2),
       omega (arith, l.invariant, c.loop-q-test.true, c.requires.wiring_laid.few, c.requires.rows_in_bounds_2),
     )
-
-pub overflow_add-k : goal.overflow_add-k
-overflow_add-k c = omega (arith, c.loop-q.invariant, c.loop-q-test.true, c.requires.wiring_laid.few, c.equalities_of-k.ensures, equalities_few c.row_limits-limits.result)
-
-pub overflow_add-l : goal.overflow_add-l
-overflow_add-l c = omega (arith, c.loop-q.invariant, c.loop-q-test.true, c.requires.wiring_laid.few, c.inequalities_of-l.ensures, inequalities_few c.row_limits-limits.result)
 
 pub loop-q-preserved : goal.loop-q-preserved
 loop-q-preserved c = let l = c.loop-q in
@@ -48,11 +29,6 @@ loop-q-preserved c = let l = c.loop-q in
       omega (arith, l.invariant.5, c.equalities_of-k.ensures, equalities_few c.row_limits-limits.result),
       omega (arith, l.invariant.6, c.inequalities_of-l.ensures, inequalities_few c.row_limits-limits.result),
     )
-
-pub returns : goal.returns
-returns c = let e : c.loop-q.q ≡ c.args.c.rows = omega arith in
-    let r = rw e at c.loop-q.invariant.0 in
-    r.is
 
 pub loop-q-init : goal.loop-q-init
 loop-q-init c = (none _ _ _, omega arith, refl, equal_none _ _ _, limit_none _ _ _, omega arith, omega arith)

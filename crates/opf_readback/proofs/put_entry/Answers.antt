@@ -1,327 +1,99 @@
 -- `opf_readback::put_entry` meets its contract, entry by entry. Assumes nothing.
 use mathlib.Core.Path.{refl}
 use native.Mathlib.Omega.{arith}
-use lib.ListN.{length}
 use Rattle.opf_layout.specs.declared.OpfColumn.TheVariants as columns
 use Rattle.opf_layout.specs.declared.OpfRow.TheVariants as rows
 use Rattle.opf_layout.specs.Layout.{active_of}
-use Rattle.opf_readback.proofs.Entries.{room_of, column_room, row_room, cost_room, flow_next, shed_next, flows_long, powers_long, of_va, of_pg, of_flow, of_psh, of_nu_bal, of_lam_ub, of_lam_lb, of_rho_ub, of_rho_lb, of_mu_ub, of_mu_lb, of_gamma_ub, of_gamma_lb, of_epigraph, of_segment_dual, of_linear_dual, of_linear_value, of_objective}
+use Rattle.opf_readback.proofs.Entries.{column_room, row_room, cost_room, flow_next, shed_next, flows_long, powers_long, of_va, of_pg, of_flow, of_psh, of_nu_bal, of_lam_ub, of_lam_lb, of_rho_ub, of_rho_lb, of_mu_ub, of_mu_lb, of_gamma_ub, of_gamma_lb, of_epigraph, of_segment_dual, of_linear_dual, of_linear_value, of_objective}
 use Rattle.opf_readback.proofs.put_entry.Goals as goal
 
 pub put_block-requires-clause-count_in_bounds : goal.put_block-requires-clause-count_in_bounds
-put_block-requires-clause-count_in_bounds c = let a = c.args in
-    let h = c.requires.raw_laid in
-    let q = c.requires.p_value in ((column_room h columns.Va).0, (column_room h columns.Va).1, omega (arith, c.requires.readings_laid.few))
-
-pub put_block-requires-clause-count_in_bounds_2 : goal.put_block-requires-clause-count_in_bounds_2
-put_block-requires-clause-count_in_bounds_2 c = let a = c.args in
-    let h = c.requires.raw_laid in
-    let q = c.requires.p_value in (room_of a.c a.p a.at (length a.out.now) c.in-Va.is q.1, q.2)
+put_block-requires-clause-count_in_bounds c = let h = c.requires.raw_laid in
+    ((column_room h columns.Va).0, (column_room h columns.Va).1, omega (arith, c.requires.readings_laid.few))
 
 pub put_block-requires-in-Pg-clause-count_in_bounds : goal.put_block-requires-in-Pg-clause-count_in_bounds
-put_block-requires-in-Pg-clause-count_in_bounds c = let a = c.args in
-    let h = c.requires.raw_laid in
-    let q = c.requires.p_value in ((column_room h columns.Pg).0, (column_room h columns.Pg).1, omega (arith, c.requires.readings_laid.few))
-
-pub put_block-requires-in-Pg-clause-count_in_bounds_2 : goal.put_block-requires-in-Pg-clause-count_in_bounds_2
-put_block-requires-in-Pg-clause-count_in_bounds_2 c = let a = c.args in
-    let h = c.requires.raw_laid in
-    let q = c.requires.p_value in (room_of a.c a.p a.at (length a.out.now) c.in-Pg.is q.1, q.2)
+put_block-requires-in-Pg-clause-count_in_bounds c = let h = c.requires.raw_laid in
+    ((column_room h columns.Pg).0, (column_room h columns.Pg).1, omega (arith, c.requires.readings_laid.few))
 
 pub put_block-requires-in-Flow-clause-count_in_bounds : goal.put_block-requires-in-Flow-clause-count_in_bounds
-put_block-requires-in-Flow-clause-count_in_bounds c = let a = c.args in
-    let h = c.requires.raw_laid in
-    let q = c.requires.p_value in ((column_room h columns.Flow).0, (column_room h columns.Flow).1, omega (arith, c.requires.readings_laid.few))
-
-pub put_block-requires-in-Flow-clause-count_in_bounds_2 : goal.put_block-requires-in-Flow-clause-count_in_bounds_2
-put_block-requires-in-Flow-clause-count_in_bounds_2 c = let a = c.args in
-    let h = c.requires.raw_laid in
-    let q = c.requires.p_value in (room_of a.c a.p a.at (length a.out.now) c.in-Flow.is q.1, q.2)
-
-pub put_sheds-requires-clause-wiring_laid : goal.put_sheds-requires-clause-wiring_laid
-unfolding active_of
-put_sheds-requires-clause-wiring_laid c = let a = c.args in
-    let h = c.requires.raw_laid in
-    let q = c.requires.p_value in c.requires.wired.laid
-
-pub put_sheds-requires-clause-readings_laid : goal.put_sheds-requires-clause-readings_laid
-unfolding active_of
-put_sheds-requires-clause-readings_laid c = let a = c.args in
-    let h = c.requires.raw_laid in
-    let q = c.requires.p_value in c.requires.readings_laid
+put_block-requires-in-Flow-clause-count_in_bounds c = let h = c.requires.raw_laid in
+    ((column_room h columns.Flow).0, (column_room h columns.Flow).1, omega (arith, c.requires.readings_laid.few))
 
 pub put_sheds-requires-clause-buses_in_bounds : goal.put_sheds-requires-clause-buses_in_bounds
 unfolding active_of
-put_sheds-requires-clause-buses_in_bounds c = let a = c.args in
-    let h = c.requires.raw_laid in
-    let q = c.requires.p_value in column_room h columns.Shed
-
-pub put_sheds-requires-clause-buses_in_bounds_2 : goal.put_sheds-requires-clause-buses_in_bounds_2
-unfolding active_of
-put_sheds-requires-clause-buses_in_bounds_2 c = let a = c.args in
-    let h = c.requires.raw_laid in
-    let q = c.requires.p_value in (room_of a.c a.p a.at (length a.out.now) c.in-Psh.is q.1, q.2)
+put_sheds-requires-clause-buses_in_bounds c = let h = c.requires.raw_laid in
+    column_room h columns.Shed
 
 pub put_turned-requires-clause-count_in_bounds : goal.put_turned-requires-clause-count_in_bounds
-put_turned-requires-clause-count_in_bounds c = let a = c.args in
-    let h = c.requires.raw_laid in
-    let q = c.requires.p_value in ((row_room h rows.Balance).0, (row_room h rows.Balance).1, omega (arith, c.requires.readings_laid.few))
-
-pub put_turned-requires-clause-count_in_bounds_2 : goal.put_turned-requires-clause-count_in_bounds_2
-put_turned-requires-clause-count_in_bounds_2 c = let a = c.args in
-    let h = c.requires.raw_laid in
-    let q = c.requires.p_value in (room_of a.c a.p a.at (length a.out.now) c.in-NuBal.is q.1, q.2)
-
-pub put_flagged-requires-clause-wiring_laid : goal.put_flagged-requires-clause-wiring_laid
-unfolding active_of
-put_flagged-requires-clause-wiring_laid c = let a = c.args in
-    let h = c.requires.raw_laid in
-    let q = c.requires.p_value in c.requires.wired.laid
-
-pub put_flagged-requires-clause-count_value : goal.put_flagged-requires-clause-count_value
-unfolding active_of
-put_flagged-requires-clause-count_value c = let a = c.args in
-    let h = c.requires.raw_laid in
-    let q = c.requires.p_value in (refl, omega (arith, c.requires.readings_laid.few))
+put_turned-requires-clause-count_in_bounds c = let h = c.requires.raw_laid in
+    ((row_room h rows.Balance).0, (row_room h rows.Balance).1, omega (arith, c.requires.readings_laid.few))
 
 pub put_flagged-requires-clause-count_in_bounds : goal.put_flagged-requires-clause-count_in_bounds
 unfolding active_of
-put_flagged-requires-clause-count_in_bounds c = let a = c.args in
-    let h = c.requires.raw_laid in
-    let q = c.requires.p_value in row_room h rows.LineUb
-
-pub put_flagged-requires-clause-count_in_bounds_2 : goal.put_flagged-requires-clause-count_in_bounds_2
-unfolding active_of
-put_flagged-requires-clause-count_in_bounds_2 c = let a = c.args in
-    let h = c.requires.raw_laid in
-    let q = c.requires.p_value in (room_of a.c a.p a.at (length a.out.now) c.in-LamUb.is q.1, q.2)
-
-pub put_flagged-requires-in-LamLb-clause-wiring_laid : goal.put_flagged-requires-in-LamLb-clause-wiring_laid
-unfolding active_of
-put_flagged-requires-in-LamLb-clause-wiring_laid c = let a = c.args in
-    let h = c.requires.raw_laid in
-    let q = c.requires.p_value in c.requires.wired.laid
-
-pub put_flagged-requires-in-LamLb-clause-count_value : goal.put_flagged-requires-in-LamLb-clause-count_value
-unfolding active_of
-put_flagged-requires-in-LamLb-clause-count_value c = let a = c.args in
-    let h = c.requires.raw_laid in
-    let q = c.requires.p_value in (refl, omega (arith, c.requires.readings_laid.few))
+put_flagged-requires-clause-count_in_bounds c = let h = c.requires.raw_laid in
+    row_room h rows.LineUb
 
 pub put_flagged-requires-in-LamLb-clause-count_in_bounds : goal.put_flagged-requires-in-LamLb-clause-count_in_bounds
 unfolding active_of
-put_flagged-requires-in-LamLb-clause-count_in_bounds c = let a = c.args in
-    let h = c.requires.raw_laid in
-    let q = c.requires.p_value in row_room h rows.LineLb
-
-pub put_flagged-requires-in-LamLb-clause-count_in_bounds_2 : goal.put_flagged-requires-in-LamLb-clause-count_in_bounds_2
-unfolding active_of
-put_flagged-requires-in-LamLb-clause-count_in_bounds_2 c = let a = c.args in
-    let h = c.requires.raw_laid in
-    let q = c.requires.p_value in (room_of a.c a.p a.at (length a.out.now) c.in-LamLb.is q.1, q.2)
-
-pub put_flagged-requires-in-RhoUb-clause-wiring_laid : goal.put_flagged-requires-in-RhoUb-clause-wiring_laid
-unfolding active_of
-put_flagged-requires-in-RhoUb-clause-wiring_laid c = let a = c.args in
-    let h = c.requires.raw_laid in
-    let q = c.requires.p_value in c.requires.wired.laid
-
-pub put_flagged-requires-in-RhoUb-clause-count_value : goal.put_flagged-requires-in-RhoUb-clause-count_value
-unfolding active_of
-put_flagged-requires-in-RhoUb-clause-count_value c = let a = c.args in
-    let h = c.requires.raw_laid in
-    let q = c.requires.p_value in (refl, omega (arith, c.requires.readings_laid.few))
+put_flagged-requires-in-LamLb-clause-count_in_bounds c = let h = c.requires.raw_laid in
+    row_room h rows.LineLb
 
 pub put_flagged-requires-in-RhoUb-clause-count_in_bounds : goal.put_flagged-requires-in-RhoUb-clause-count_in_bounds
 unfolding active_of
-put_flagged-requires-in-RhoUb-clause-count_in_bounds c = let a = c.args in
-    let h = c.requires.raw_laid in
-    let q = c.requires.p_value in row_room h rows.GenUb
-
-pub put_flagged-requires-in-RhoUb-clause-count_in_bounds_2 : goal.put_flagged-requires-in-RhoUb-clause-count_in_bounds_2
-unfolding active_of
-put_flagged-requires-in-RhoUb-clause-count_in_bounds_2 c = let a = c.args in
-    let h = c.requires.raw_laid in
-    let q = c.requires.p_value in (room_of a.c a.p a.at (length a.out.now) c.in-RhoUb.is q.1, q.2)
-
-pub put_flagged-requires-in-RhoLb-clause-wiring_laid : goal.put_flagged-requires-in-RhoLb-clause-wiring_laid
-unfolding active_of
-put_flagged-requires-in-RhoLb-clause-wiring_laid c = let a = c.args in
-    let h = c.requires.raw_laid in
-    let q = c.requires.p_value in c.requires.wired.laid
-
-pub put_flagged-requires-in-RhoLb-clause-count_value : goal.put_flagged-requires-in-RhoLb-clause-count_value
-unfolding active_of
-put_flagged-requires-in-RhoLb-clause-count_value c = let a = c.args in
-    let h = c.requires.raw_laid in
-    let q = c.requires.p_value in (refl, omega (arith, c.requires.readings_laid.few))
+put_flagged-requires-in-RhoUb-clause-count_in_bounds c = let h = c.requires.raw_laid in
+    row_room h rows.GenUb
 
 pub put_flagged-requires-in-RhoLb-clause-count_in_bounds : goal.put_flagged-requires-in-RhoLb-clause-count_in_bounds
 unfolding active_of
-put_flagged-requires-in-RhoLb-clause-count_in_bounds c = let a = c.args in
-    let h = c.requires.raw_laid in
-    let q = c.requires.p_value in row_room h rows.GenLb
-
-pub put_flagged-requires-in-RhoLb-clause-count_in_bounds_2 : goal.put_flagged-requires-in-RhoLb-clause-count_in_bounds_2
-unfolding active_of
-put_flagged-requires-in-RhoLb-clause-count_in_bounds_2 c = let a = c.args in
-    let h = c.requires.raw_laid in
-    let q = c.requires.p_value in (room_of a.c a.p a.at (length a.out.now) c.in-RhoLb.is q.1, q.2)
-
-pub put_sheds-requires-in-MuUb-clause-wiring_laid : goal.put_sheds-requires-in-MuUb-clause-wiring_laid
-unfolding active_of
-put_sheds-requires-in-MuUb-clause-wiring_laid c = let a = c.args in
-    let h = c.requires.raw_laid in
-    let q = c.requires.p_value in c.requires.wired.laid
-
-pub put_sheds-requires-in-MuUb-clause-readings_laid : goal.put_sheds-requires-in-MuUb-clause-readings_laid
-unfolding active_of
-put_sheds-requires-in-MuUb-clause-readings_laid c = let a = c.args in
-    let h = c.requires.raw_laid in
-    let q = c.requires.p_value in c.requires.readings_laid
+put_flagged-requires-in-RhoLb-clause-count_in_bounds c = let h = c.requires.raw_laid in
+    row_room h rows.GenLb
 
 pub put_sheds-requires-in-MuUb-clause-buses_in_bounds : goal.put_sheds-requires-in-MuUb-clause-buses_in_bounds
 unfolding active_of
-put_sheds-requires-in-MuUb-clause-buses_in_bounds c = let a = c.args in
-    let h = c.requires.raw_laid in
-    let q = c.requires.p_value in row_room h rows.ShedUb
-
-pub put_sheds-requires-in-MuUb-clause-buses_in_bounds_2 : goal.put_sheds-requires-in-MuUb-clause-buses_in_bounds_2
-unfolding active_of
-put_sheds-requires-in-MuUb-clause-buses_in_bounds_2 c = let a = c.args in
-    let h = c.requires.raw_laid in
-    let q = c.requires.p_value in (room_of a.c a.p a.at (length a.out.now) c.in-MuUb.is q.1, q.2)
-
-pub put_lower-requires-clause-wiring_laid : goal.put_lower-requires-clause-wiring_laid
-unfolding active_of
-put_lower-requires-clause-wiring_laid c = let a = c.args in
-    let h = c.requires.raw_laid in
-    let q = c.requires.p_value in c.requires.wired.laid
-
-pub put_lower-requires-clause-readings_laid : goal.put_lower-requires-clause-readings_laid
-unfolding active_of
-put_lower-requires-clause-readings_laid c = let a = c.args in
-    let h = c.requires.raw_laid in
-    let q = c.requires.p_value in c.requires.readings_laid
+put_sheds-requires-in-MuUb-clause-buses_in_bounds c = let h = c.requires.raw_laid in
+    row_room h rows.ShedUb
 
 pub put_lower-requires-clause-buses_in_bounds : goal.put_lower-requires-clause-buses_in_bounds
 unfolding active_of
-put_lower-requires-clause-buses_in_bounds c = let a = c.args in
-    let h = c.requires.raw_laid in
-    let q = c.requires.p_value in row_room h rows.Balance
+put_lower-requires-clause-buses_in_bounds c = let h = c.requires.raw_laid in
+    row_room h rows.Balance
 
 pub put_lower-requires-clause-buses_in_bounds_2 : goal.put_lower-requires-clause-buses_in_bounds_2
 unfolding active_of
-put_lower-requires-clause-buses_in_bounds_2 c = let a = c.args in
-    let h = c.requires.raw_laid in
-    let q = c.requires.p_value in row_room h rows.ShedLb
-
-pub put_lower-requires-clause-buses_in_bounds_3 : goal.put_lower-requires-clause-buses_in_bounds_3
-unfolding active_of
-put_lower-requires-clause-buses_in_bounds_3 c = let a = c.args in
-    let h = c.requires.raw_laid in
-    let q = c.requires.p_value in (room_of a.c a.p a.at (length a.out.now) c.in-MuLb.is q.1, q.2)
-
-pub put_flagged-requires-in-GammaUb-clause-wiring_laid : goal.put_flagged-requires-in-GammaUb-clause-wiring_laid
-unfolding active_of
-put_flagged-requires-in-GammaUb-clause-wiring_laid c = let a = c.args in
-    let h = c.requires.raw_laid in
-    let q = c.requires.p_value in c.requires.wired.laid
-
-pub put_flagged-requires-in-GammaUb-clause-count_value : goal.put_flagged-requires-in-GammaUb-clause-count_value
-unfolding active_of
-put_flagged-requires-in-GammaUb-clause-count_value c = let a = c.args in
-    let h = c.requires.raw_laid in
-    let q = c.requires.p_value in (refl, omega (arith, c.requires.readings_laid.few))
+put_lower-requires-clause-buses_in_bounds_2 c = let h = c.requires.raw_laid in
+    row_room h rows.ShedLb
 
 pub put_flagged-requires-in-GammaUb-clause-count_in_bounds : goal.put_flagged-requires-in-GammaUb-clause-count_in_bounds
 unfolding active_of
-put_flagged-requires-in-GammaUb-clause-count_in_bounds c = let a = c.args in
-    let h = c.requires.raw_laid in
-    let q = c.requires.p_value in row_room h rows.PhaseUb
-
-pub put_flagged-requires-in-GammaUb-clause-count_in_bounds_2 : goal.put_flagged-requires-in-GammaUb-clause-count_in_bounds_2
-unfolding active_of
-put_flagged-requires-in-GammaUb-clause-count_in_bounds_2 c = let a = c.args in
-    let h = c.requires.raw_laid in
-    let q = c.requires.p_value in (room_of a.c a.p a.at (length a.out.now) c.in-GammaUb.is q.1, q.2)
-
-pub put_flagged-requires-in-GammaLb-clause-wiring_laid : goal.put_flagged-requires-in-GammaLb-clause-wiring_laid
-unfolding active_of
-put_flagged-requires-in-GammaLb-clause-wiring_laid c = let a = c.args in
-    let h = c.requires.raw_laid in
-    let q = c.requires.p_value in c.requires.wired.laid
-
-pub put_flagged-requires-in-GammaLb-clause-count_value : goal.put_flagged-requires-in-GammaLb-clause-count_value
-unfolding active_of
-put_flagged-requires-in-GammaLb-clause-count_value c = let a = c.args in
-    let h = c.requires.raw_laid in
-    let q = c.requires.p_value in (refl, omega (arith, c.requires.readings_laid.few))
+put_flagged-requires-in-GammaUb-clause-count_in_bounds c = let h = c.requires.raw_laid in
+    row_room h rows.PhaseUb
 
 pub put_flagged-requires-in-GammaLb-clause-count_in_bounds : goal.put_flagged-requires-in-GammaLb-clause-count_in_bounds
 unfolding active_of
-put_flagged-requires-in-GammaLb-clause-count_in_bounds c = let a = c.args in
-    let h = c.requires.raw_laid in
-    let q = c.requires.p_value in row_room h rows.PhaseLb
-
-pub put_flagged-requires-in-GammaLb-clause-count_in_bounds_2 : goal.put_flagged-requires-in-GammaLb-clause-count_in_bounds_2
-unfolding active_of
-put_flagged-requires-in-GammaLb-clause-count_in_bounds_2 c = let a = c.args in
-    let h = c.requires.raw_laid in
-    let q = c.requires.p_value in (room_of a.c a.p a.at (length a.out.now) c.in-GammaLb.is q.1, q.2)
+put_flagged-requires-in-GammaLb-clause-count_in_bounds c = let h = c.requires.raw_laid in
+    row_room h rows.PhaseLb
 
 pub put_block-requires-in-Epigraph-clause-count_in_bounds : goal.put_block-requires-in-Epigraph-clause-count_in_bounds
-put_block-requires-in-Epigraph-clause-count_in_bounds c = let a = c.args in
-    let h = c.requires.raw_laid in
-    let q = c.requires.p_value in cost_room h q.0
-
-pub put_block-requires-in-Epigraph-clause-count_in_bounds_2 : goal.put_block-requires-in-Epigraph-clause-count_in_bounds_2
-put_block-requires-in-Epigraph-clause-count_in_bounds_2 c = let a = c.args in
-    let h = c.requires.raw_laid in
-    let q = c.requires.p_value in (room_of a.c a.p a.at (length a.out.now) c.in-Epigraph.is q.1, q.2)
+put_block-requires-in-Epigraph-clause-count_in_bounds c = let h = c.requires.raw_laid in
+    let q = c.requires.p_value in
+    cost_room h q.0
 
 pub put_block-requires-in-SegmentDual-clause-count_in_bounds : goal.put_block-requires-in-SegmentDual-clause-count_in_bounds
-put_block-requires-in-SegmentDual-clause-count_in_bounds c = let a = c.args in
-    let h = c.requires.raw_laid in
-    let q = c.requires.p_value in ((row_room h rows.Segment).0, (row_room h rows.Segment).1, omega (arith, c.requires.readings_laid.few))
-
-pub put_block-requires-in-SegmentDual-clause-count_in_bounds_2 : goal.put_block-requires-in-SegmentDual-clause-count_in_bounds_2
-put_block-requires-in-SegmentDual-clause-count_in_bounds_2 c = let a = c.args in
-    let h = c.requires.raw_laid in
-    let q = c.requires.p_value in (room_of a.c a.p a.at (length a.out.now) c.in-SegmentDual.is q.1, q.2)
-
-pub put_duals-requires-clause-wiring_laid : goal.put_duals-requires-clause-wiring_laid
-unfolding active_of
-put_duals-requires-clause-wiring_laid c = let a = c.args in
-    let h = c.requires.raw_laid in
-    let q = c.requires.p_value in c.requires.wired.laid
-
-pub put_duals-requires-clause-readings_laid : goal.put_duals-requires-clause-readings_laid
-unfolding active_of
-put_duals-requires-clause-readings_laid c = let a = c.args in
-    let h = c.requires.raw_laid in
-    let q = c.requires.p_value in c.requires.readings_laid
+put_block-requires-in-SegmentDual-clause-count_in_bounds c = let h = c.requires.raw_laid in
+    ((row_room h rows.Segment).0, (row_room h rows.Segment).1, omega (arith, c.requires.readings_laid.few))
 
 pub put_duals-requires-clause-rows_in_bounds : goal.put_duals-requires-clause-rows_in_bounds
 unfolding active_of
-put_duals-requires-clause-rows_in_bounds c = let a = c.args in
-    let h = c.requires.raw_laid in
-    let q = c.requires.p_value in row_room h rows.LinearEqual
+put_duals-requires-clause-rows_in_bounds c = let h = c.requires.raw_laid in
+    row_room h rows.LinearEqual
 
 pub put_duals-requires-clause-rows_in_bounds_2 : goal.put_duals-requires-clause-rows_in_bounds_2
 unfolding active_of
-put_duals-requires-clause-rows_in_bounds_2 c = let a = c.args in
-    let h = c.requires.raw_laid in
-    let q = c.requires.p_value in row_room h rows.LinearLimit
+put_duals-requires-clause-rows_in_bounds_2 c = let h = c.requires.raw_laid in
+    row_room h rows.LinearLimit
 
-pub put_duals-requires-clause-rows_in_bounds_3 : goal.put_duals-requires-clause-rows_in_bounds_3
-unfolding active_of
-put_duals-requires-clause-rows_in_bounds_3 c = let a = c.args in
-    let h = c.requires.raw_laid in
-    let q = c.requires.p_value in (room_of a.c a.p a.at (length a.out.now) c.in-LinearDual.is q.1, q.2)
-
-pub offset_bounds-x-flow : goal.offset_bounds-x-flow
-offset_bounds-x-flow c = let h = c.requires.raw_laid in
+pub offset_bounds-x-lay : goal.offset_bounds-x-lay
+offset_bounds-x-lay c = let h = c.requires.raw_laid in
     omega (arith, shed_next h, flow_next h, (column_room h columns.Shed).0, (column_room h columns.Shed).1)
 
 pub slice_bounds-put_values-count : goal.slice_bounds-put_values-count
@@ -336,8 +108,8 @@ pub slice_bounds-put_values-end : goal.slice_bounds-put_values-end
 slice_bounds-put_values-end c = let h = c.requires.raw_laid in
     omega (arith, shed_next h, flow_next h, (column_room h columns.Shed).0, (column_room h columns.Shed).1)
 
-pub offset_bounds-x-pg : goal.offset_bounds-x-pg
-offset_bounds-x-pg c = let h = c.requires.raw_laid in
+pub offset_bounds-x-lay-in-LinearValue : goal.offset_bounds-x-lay-in-LinearValue
+offset_bounds-x-lay-in-LinearValue c = let h = c.requires.raw_laid in
     omega (arith, shed_next h, flow_next h, (column_room h columns.Shed).0, (column_room h columns.Shed).1)
 
 pub slice_bounds-put_values-count-in-LinearValue : goal.slice_bounds-put_values-count-in-LinearValue
@@ -352,46 +124,13 @@ pub slice_bounds-put_values-end-in-LinearValue : goal.slice_bounds-put_values-en
 slice_bounds-put_values-end-in-LinearValue c = let h = c.requires.raw_laid in
     omega (arith, shed_next h, flow_next h, (column_room h columns.Shed).0, (column_room h columns.Shed).1)
 
-pub put_values-requires-clause-wired : goal.put_values-requires-clause-wired
-put_values-requires-clause-wired c = let a = c.args in
-    let h = c.requires.raw_laid in
-    let q = c.requires.p_value in c.requires.wired
-
-pub put_values-requires-clause-termed : goal.put_values-requires-clause-termed
-put_values-requires-clause-termed c = let a = c.args in
-    let h = c.requires.raw_laid in
-    let q = c.requires.p_value in c.requires.termed
-
 pub put_values-requires-clause-f_len : goal.put_values-requires-clause-f_len
-put_values-requires-clause-f_len c = let a = c.args in
-    let h = c.requires.raw_laid in
-    let q = c.requires.p_value in (flows_long h, powers_long h)
-
-pub put_values-requires-clause-rows_in_bounds : goal.put_values-requires-clause-rows_in_bounds
-put_values-requires-clause-rows_in_bounds c = let a = c.args in
-    let h = c.requires.raw_laid in
-    let q = c.requires.p_value in (room_of a.c a.p a.at (length a.out.now) c.in-LinearValue.is q.1, q.2)
-
-pub objective_of-requires-clause-wired : goal.objective_of-requires-clause-wired
-objective_of-requires-clause-wired c = let a = c.args in
-    let h = c.requires.raw_laid in
-    let q = c.requires.p_value in c.requires.wired
-
-pub objective_of-requires-clause-readings_laid : goal.objective_of-requires-clause-readings_laid
-objective_of-requires-clause-readings_laid c = let a = c.args in
-    let h = c.requires.raw_laid in
-    let q = c.requires.p_value in c.requires.readings_laid
+put_values-requires-clause-f_len c = let h = c.requires.raw_laid in
+    (flows_long h, powers_long h)
 
 pub objective_of-requires-clause-generators_in_bounds : goal.objective_of-requires-clause-generators_in_bounds
-objective_of-requires-clause-generators_in_bounds c = let a = c.args in
-    let h = c.requires.raw_laid in
-    let q = c.requires.p_value in column_room h columns.Pg
-
-pub bounds-out-at : goal.bounds-out-at
-bounds-out-at c = let a = c.args in
-    let h = c.requires.raw_laid in
-    let q = c.requires.p_value in
-    omega (arith, room_of a.c a.p a.at (length a.out.now) c.in-Objective.is q.1)
+objective_of-requires-clause-generators_in_bounds c = let h = c.requires.raw_laid in
+    column_room h columns.Pg
 
 pub returns-in-Va : goal.returns-in-Va
 returns-in-Va c = let a = c.args in

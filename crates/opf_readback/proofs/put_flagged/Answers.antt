@@ -1,6 +1,4 @@
 -- `opf_readback::put_flagged` meets its contract: a word more each turn, the rank carried along. Assumes nothing.
-use mathlib.Core.Path.{◌≡◌}
-use Prim.Native.Nat.{◌-◌}
 use native.Mathlib.Omega.{arith}
 use lib.ListN.{length}
 use Rattle.sens_snap.proofs.Stores.{none, more}
@@ -8,9 +6,6 @@ use Rattle.opf_layout.specs.Layout.{flagged}
 use Rattle.opf_layout.proofs.Counting.{rank_none, rank_more}
 use Rattle.opf_readback.proofs.Reading.{picked, picked_room, flag_met}
 use Rattle.opf_readback.proofs.put_flagged.Goals as goal
-
-pub word-on-requires-clause-wiring_laid : goal.word-on-requires-clause-wiring_laid
-word-on-requires-clause-wiring_laid c = c.requires.wiring_laid
 
 pub value_if-requires : goal.value_if-requires
 value_if-requires c = let a = c.args in
@@ -26,11 +21,6 @@ loop-i-preserved c = let l = c.loop-i in
       rank_more _ l.i l.invariant.2 c.one_if-k.ensures.0 on,
       omega arith,
     )
-
-pub returns : goal.returns
-returns c = let e : c.loop-i.i ≡ c.args.count = omega arith in
-    let r = rw e at c.loop-i.invariant.0 in
-    r.is
 
 pub loop-i-init : goal.loop-i-init
 loop-i-init c = (none _ _ _, omega arith, rank_none _, omega arith)

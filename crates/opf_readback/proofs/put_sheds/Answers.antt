@@ -1,6 +1,5 @@
 -- `opf_readback::put_sheds` meets its contract: a word more each turn, the rank carried along. Assumes nothing.
-use mathlib.Core.Path.{◌≡◌, refl}
-use Prim.Native.Nat.{◌-◌}
+use mathlib.Core.Path.{refl}
 use native.Mathlib.Omega.{arith}
 use lib.ListN.{length}
 use Rattle.sens_snap.proofs.Stores.{none, more}
@@ -8,12 +7,6 @@ use Rattle.opf_layout.specs.Layout.{sheds}
 use Rattle.opf_layout.proofs.Counting.{rank_none, rank_more}
 use Rattle.opf_readback.proofs.Reading.{picked, picked_room}
 use Rattle.opf_readback.proofs.put_sheds.Goals as goal
-
-pub sheds_at-on-requires-clause-wiring_laid : goal.sheds_at-on-requires-clause-wiring_laid
-sheds_at-on-requires-clause-wiring_laid c = c.requires.wiring_laid
-
-pub sheds_at-on-requires-clause-readings_laid : goal.sheds_at-on-requires-clause-readings_laid
-sheds_at-on-requires-clause-readings_laid c = c.requires.readings_laid
 
 pub value_if-requires : goal.value_if-requires
 value_if-requires c = let a = c.args in
@@ -29,11 +22,6 @@ loop-i-preserved c = let l = c.loop-i in
       rank_more _ l.i l.invariant.3 c.one_if-k.ensures.0 c.sheds_at-on.ensures,
       omega arith,
     )
-
-pub returns : goal.returns
-returns c = let e : c.loop-i.i ≡ c.args.c.buses = omega arith in
-    let r = rw e at c.loop-i.invariant.0 in
-    r.is
 
 pub loop-i-init : goal.loop-i-init
 loop-i-init c = (none _ _ _, omega arith, refl, rank_none _, omega arith)

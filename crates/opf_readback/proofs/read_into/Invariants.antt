@@ -1,5 +1,4 @@
 -- `opf_readback::read_into` meets its contract: an entry more each turn, its place carried along. Assumes nothing.
-use Prim.Native.Nat.{◌-◌, ◌≤◌}
 use mathlib.Core.Path.{◌≡◌}
 use Rattle.sequence.specs.Layout.{start}
 use Rattle.solution.specs.Sheet.{sizes}
@@ -7,8 +6,5 @@ use Rattle.sens_snap.proofs.Stores.{Runs}
 use Rattle.opf_readback.proofs.Entries.{entry_words}
 use Rattle.opf_readback.proofs.read_into.Given as goal
 
-abbrev pub invariant-loop-k : goal.invariant-loop-k
-invariant-loop-k l = Runs (entry_words l.c l.wiring l.readings l.term_index l.term_coefficient l.x l.z l.raw l.p) 0 l.k l.at l.initial.out l.out × (l.k ≤ 18) × (l.at ≡ start (sizes l.c l.p) l.k)
-
-abbrev pub decreases-loop-k : goal.decreases-loop-k
-decreases-loop-k l = 18 - l.k
+abbrev pub invariant-loop-e : goal.invariant-loop-e
+invariant-loop-e l = Runs (entry_words l.c l.wiring l.readings l.term_index l.term_coefficient l.x l.z l.raw l.p) 0 l.e-index l.at l.initial.out l.out × (l.at ≡ start (sizes l.c l.p) l.e-index)

@@ -1,5 +1,5 @@
 -- `opf_sides::put_b` meets its contract: the balances, then a block more each turn. Assumes nothing.
-use Prim.Native.Nat.{ℕ, ◌+◌, ◌-◌, ◌≤◌}
+use Prim.Native.Nat.{ℕ, suc, ◌+◌, ◌≤◌}
 use mathlib.Core.Path.{◌≡◌, refl, sym, ap, ◌∙◌}
 use mathlib.Core.List.{List, ◌++◌}
 use native.Mathlib.Nat.{le_trans, le_of_eq}
@@ -7,7 +7,7 @@ use native.Mathlib.Omega.{arith}
 use lib.Ieee.{Float}
 use lib.ListN.{length, get_or}
 use Rattle.sequence.specs.Lists.{each, made, front}
-use Rattle.sequence.proofs.Lists.{made_length, each_add}
+use Rattle.sequence.proofs.Lists.{made_length, each_add, each_same}
 use Rattle.network.specs.declared.Counts.{Counts}
 use Rattle.model.specs.Quantities.{fixed_at}
 use Rattle.sens_snap.proofs.Stores.{fronted}
@@ -46,68 +46,38 @@ first_block c w r {old} {new} e k h =
 -- the other blocks
 
 abbrev later : Counts → List ℕ → List Float → ℕ → List Float
-later c w r k = block c w r (1 + k)
+later c w r k = block c w r (suc k)
 
 all_blocks : (c : Counts) (w : List ℕ) (r : List Float) → b_sheet c w r ≡ each 1 (block c w r) ++ each 13 (later c w r)
 unfolding b_sheet
-all_blocks c w r = each_add (block c w r) 1 13
+all_blocks c w r =
+    each_add (block c w r) 1 13
+    ∙ ap (λ (l : List Float). each 1 (block c w r) ++ l) (each_same 13 (λ k. block c w r (1 + k)) (later c w r) (λ k h. let e : 1 + k ≡ suc k = omega arith in ap (block c w r) e))
 
 later_room : (c : Counts) (w : List ℕ) (r : List Float) {old new : List Float} → Stores (each 1 (block c w r)) 0 old new c.buses → length (b_sheet c w r) ≤ length old
     → c.buses + length (each 13 (later c w r)) ≤ length new
 later_room c w r {old} p h = room_next (each 13 (later c w r)) p (from_begin (each 1 (block c w r) ++ each 13 (later c w r)) (rw (all_blocks c w r) at h))
 
-pub fixed_into-requires-clause-wired : goal.fixed_into-requires-clause-wired
-fixed_into-requires-clause-wired c = let a = c.args in c.requires.wired
-
-pub fixed_into-requires-clause-readings_laid : goal.fixed_into-requires-clause-readings_laid
-fixed_into-requires-clause-readings_laid c = let a = c.args in c.requires.readings_laid
-
 pub fixed_into-requires-clause-buses_in_bounds : goal.fixed_into-requires-clause-buses_in_bounds
 fixed_into-requires-clause-buses_in_bounds c = let a = c.args in first_room a.c a.wiring.now a.readings.now _ c.requires.readings_in_bounds
 
-pub put_rows-at-requires-clause-wiring_laid : goal.put_rows-at-requires-clause-wiring_laid
-put_rows-at-requires-clause-wiring_laid c = let a = c.args in
-    let l = c.loop-k in
-    let t = c.loop-k-test.true in
-    let e = c.row_at.ensures in
-    let g = later_room a.c a.wiring.now a.readings.now (first_block a.c a.wiring.now a.readings.now c.fixed_into.ensures.out_after c.fixed_into.ensures.out_len_unchanged (first_room a.c a.wiring.now a.readings.now _ c.requires.readings_in_bounds)) c.requires.readings_in_bounds in
-    let h = turn_room (later a.c a.wiring.now a.readings.now) l.k 13 a.c.buses (length l.b) t (rw l.invariant.0.kept g) l.invariant.0.next in c.requires.wired.laid
-
-pub put_rows-at-requires-clause-readings_laid : goal.put_rows-at-requires-clause-readings_laid
-put_rows-at-requires-clause-readings_laid c = let a = c.args in
-    let l = c.loop-k in
-    let t = c.loop-k-test.true in
-    let e = c.row_at.ensures in
-    let g = later_room a.c a.wiring.now a.readings.now (first_block a.c a.wiring.now a.readings.now c.fixed_into.ensures.out_after c.fixed_into.ensures.out_len_unchanged (first_room a.c a.wiring.now a.readings.now _ c.requires.readings_in_bounds)) c.requires.readings_in_bounds in
-    let h = turn_room (later a.c a.wiring.now a.readings.now) l.k 13 a.c.buses (length l.b) t (rw l.invariant.0.kept g) l.invariant.0.next in c.requires.readings_laid
+pub loop-block-init : goal.loop-block-init
+loop-block-init c = no_turn _ _ _
 
 pub put_rows-at-requires-clause-b_in_bounds : goal.put_rows-at-requires-clause-b_in_bounds
 put_rows-at-requires-clause-b_in_bounds c = let a = c.args in
-    let l = c.loop-k in
-    let t = c.loop-k-test.true in
-    let e = c.row_at.ensures in
+    let l = c.loop-block in
+    let t = c.loop-block-test.true in
     let g = later_room a.c a.wiring.now a.readings.now (first_block a.c a.wiring.now a.readings.now c.fixed_into.ensures.out_after c.fixed_into.ensures.out_len_unchanged (first_room a.c a.wiring.now a.readings.now _ c.requires.readings_in_bounds)) c.requires.readings_in_bounds in
-    let h = turn_room (later a.c a.wiring.now a.readings.now) l.k 13 a.c.buses (length l.b) t (rw l.invariant.0.kept g) l.invariant.0.next in (rw e h, rw e (omega (arith, row_rank_of (1 + l.k) (omega (arith, t)))))
+    (turn_room (later a.c a.wiring.now a.readings.now) l.block-index 13 a.c.buses (length l.b) t (rw l.invariant.kept g) l.invariant.next, omega (arith, row_rank_of (suc l.block-index) (omega (arith, t))))
 
-pub loop-k-preserved : goal.loop-k-preserved
-loop-k-preserved c = let l = c.loop-k in
-    let t = c.loop-k-test.true in
-    let q = rw c.row_at.ensures at c.put_rows-at.ensures in
-    (turn _ l.k l.invariant.0 q, omega (arith, t))
+pub loop-block-preserved : goal.loop-block-preserved
+loop-block-preserved c = turn _ c.loop-block.block-index c.loop-block.invariant c.put_rows-at.ensures
 
 pub returns : goal.returns
 returns c = let a = c.args in
-    let l = c.loop-k in
-    let e : l.k ≡ 13 = omega (arith, c.loop-k-test.false, l.invariant.1) in
+    let l = c.loop-block in
+    let e : l.block-index ≡ 13 = omega arith in
     let p = first_block a.c a.wiring.now a.readings.now c.fixed_into.ensures.out_after c.fixed_into.ensures.out_len_unchanged (first_room a.c a.wiring.now a.readings.now _ c.requires.readings_in_bounds) in
-    let q = then p (rw e at l.invariant.0) in
+    let q = then p (rw e at l.invariant) in
     whole (rw (← (all_blocks a.c a.wiring.now a.readings.now)) at q) c.requires.readings_in_bounds
-
-pub loop-k-init : goal.loop-k-init
-loop-k-init c = (no_turn _ _ _, omega arith)
-
--- left (argument 4 of 12): omega (arith, c.loop-test.true)
--- left (argument 5 of 12): omega (arith, c.loop-test.true)
--- left (argument 7 of 12): omega (arith, c.before.before.before.before.before.loop-test.true)
--- left (argument 8 of 12): omega (arith, c.before.before.before.before.before.loop-test.true)
--- left (argument 10 of 12): omega (arith, c.before.loop.invariant.0.kept, c.before.before.before.before.fixed_into.ensures.1)

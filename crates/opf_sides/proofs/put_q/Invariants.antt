@@ -1,5 +1,4 @@
 -- `opf_sides::put_q` meets its contract: a block more each turn. Assumes nothing.
-use Prim.Native.Nat.{◌-◌, ◌≤◌}
 use lib.ListN.{get_or}
 use Rattle.sequence.specs.Lists.{each}
 use Rattle.opf_layout.specs.declared.OpfColumn.TheVariants.{Va}
@@ -8,8 +7,5 @@ use Rattle.opf_assembly.specs.Assembly.{column_words}
 use Rattle.opf_sides.specs.Walks.{Stores}
 use Rattle.opf_sides.proofs.put_q.Given as goal
 
-abbrev pub invariant-loop-k : goal.invariant-loop-k
-invariant-loop-k l = Stores (each l.k (λ t. column_words l.c l.wiring l.readings (get_or columns t Va))) 0 l.initial.q l.q l.at × (l.k ≤ 5)
-
-abbrev pub decreases-loop-k : goal.decreases-loop-k
-decreases-loop-k l = 5 - l.k
+abbrev pub invariant-loop-block : goal.invariant-loop-block
+invariant-loop-block l = Stores (each l.block-index (λ t. column_words l.c l.wiring l.readings (get_or columns t Va))) 0 l.initial.q l.q l.at

@@ -1,20 +1,9 @@
 -- `opf_sides::put_rows` meets its contract: an element more each turn. Assumes nothing.
-use Prim.Native.Nat.{◌-◌, ◌<◌}
-use mathlib.Core.Path.{◌≡◌}
 use native.Mathlib.Omega.{arith}
 use lib.ListN.{length}
 use Rattle.opf_assembly.specs.Assembly.{right_sides, row_elements}
 use Rattle.opf_sides.proofs.Storing.{no_turn, turn, turn_room}
 use Rattle.opf_sides.proofs.put_rows.Goals as goal
-
-pub sides_of-requires-clause-wiring_laid : goal.sides_of-requires-clause-wiring_laid
-sides_of-requires-clause-wiring_laid c = let h : c.loop-i.i < row_elements c.args.c c.args.b = omega (arith, c.loop-i-test.true, c.loop-i.invariant.2) in c.requires.wiring_laid
-
-pub sides_of-requires-clause-readings_laid : goal.sides_of-requires-clause-readings_laid
-sides_of-requires-clause-readings_laid c = let h : c.loop-i.i < row_elements c.args.c c.args.b = omega (arith, c.loop-i-test.true, c.loop-i.invariant.2) in c.requires.readings_laid
-
-pub sides_of-requires-clause-i_bound : goal.sides_of-requires-clause-i_bound
-sides_of-requires-clause-i_bound c = let h : c.loop-i.i < row_elements c.args.c c.args.b = omega (arith, c.loop-i-test.true, c.loop-i.invariant.2) in (h, c.requires.b_in_bounds.1)
 
 pub put_sides-k-requires : goal.put_sides-k-requires
 put_sides-k-requires c = let a = c.args in
@@ -26,15 +15,5 @@ loop-i-preserved c = let l = c.loop-i in
     let q = rw c.sides_of.ensures at c.put_sides-k.ensures in
     (turn _ l.i l.invariant.0 q, omega (arith, c.loop-i-test.true), l.invariant.2)
 
-pub returns : goal.returns
-returns c = let a = c.args in
-    let l = c.loop-i in
-    let e : l.i ≡ row_elements a.c a.b = omega (arith, c.loop-i-test.false, l.invariant.1, l.invariant.2) in
-    rw e at l.invariant.0
-
 pub loop-i-init : goal.loop-i-init
 loop-i-init c = (no_turn _ _ _, omega arith, c.row_elements-to.ensures)
-
--- left (argument 6 of 11): omega (arith, c.before.before.before.before.before.loop-test.true)
--- left (argument 7 of 11): omega (arith, c.before.before.before.before.before.loop-test.true)
--- left (argument 9 of 11): c.before.loop.invariant.0.kept

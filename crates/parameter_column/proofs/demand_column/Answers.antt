@@ -1,5 +1,4 @@
 -- `parameter_column::demand_column` meets its contract. Assumes nothing.
-use mathlib.Core.Path.{◌∙◌}
 use Rattle.solution.specs.Sheet.{solved}
 use lib.Ieee.{of_bits, of_int}
 use Rattle.float64.specs.Values.{whole}
@@ -7,9 +6,6 @@ use Rattle.kkt_index.specs.Index.{start_in}
 use Rattle.parameter_column.specs.Columns.{valued}
 use Rattle.parameter_column.proofs.Touching.{then}
 use Rattle.parameter_column.proofs.demand_column.Goals as goal
-
-pub shape_of-column : goal.shape_of-column
-shape_of-column c = c.touch-2.ensures.touched.kept ∙ c.touch.ensures.touched.kept
 
 pub returns : goal.returns
 unfolding valued whole of_int of_bits

@@ -1,19 +1,9 @@
 -- `parameter_column::gamma_column` meets its contract: two touches. Assumes nothing.
-use mathlib.Core.Path.{◌∙◌}
 use Rattle.network.specs.Layout.{reading}
 use Rattle.kkt_index.specs.Index.{start_in}
 use Rattle.parameter_column.specs.Columns.{valued}
 use Rattle.parameter_column.proofs.Touching.{then}
 use Rattle.parameter_column.proofs.gamma_column.Goals as goal
-
-pub touch-requires-2-clause-fitted : goal.touch-requires-2-clause-fitted
-touch-requires-2-clause-fitted c = c.touch.ensures.fitted_2
-
-pub touch-requires-2-clause-i_bound : goal.touch-requires-2-clause-i_bound
-touch-requires-2-clause-i_bound c = c.requires.e_lt_branches
-
-pub shape_of-column : goal.shape_of-column
-shape_of-column c = c.touch-2.ensures.touched.kept ∙ c.touch.ensures.touched.kept
 
 pub returns : goal.returns
 unfolding valued

@@ -1,12 +1,8 @@
 -- `parameter_column::limit_column` meets its contract. Assumes nothing.
-use mathlib.Core.Path.{◌∙◌}
 use Rattle.kkt_index.specs.Index.{start_in}
 use Rattle.parameter_column.specs.Columns.{valued}
 use Rattle.parameter_column.proofs.Touching.{then}
 use Rattle.parameter_column.proofs.limit_column.Goals as goal
-
-pub shape_of-column : goal.shape_of-column
-shape_of-column c = c.touch-2.ensures.touched.kept ∙ c.touch.ensures.touched.kept
 
 pub returns : goal.returns
 unfolding valued

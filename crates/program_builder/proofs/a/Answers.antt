@@ -1,8 +1,17 @@
--- `program_builder::a` meets its contract: an item whose value is not zero. Assumes nothing.
+-- `program_builder::a` meets its contract: a triplet whose value is not zero. Assumes nothing.
+use mathlib.Core.Path.{◌≡◌, refl, ◌∙◌}
+use mathlib.Core.Bool.{Bool, true, false, cond}
 use lib.Ieee.{ne, of_bits, of_int}
+use Rattle.std.specs.Prelude.{Some, None}
+use Rattle.std.specs.Bool.{then_some}
 use Rattle.float64.specs.Values.{whole}
+use Rattle.sequence.proofs.Sheets.{put_of}
 use Rattle.program_builder.proofs.a.Goals as goal
 
-pub returns : goal.returns
+then_some_cond : {A : Type 0} (b : Bool) (x : A) → then_some b x ≡ cond b (Some x) None
+then_some_cond true x = refl
+then_some_cond false x = refl
+
+pub returns-clause-puts : goal.returns-clause-puts
 unfolding ne whole of_int of_bits
-returns c = c.put.ensures
+returns-clause-puts c = put_of (c.then_some.ensures ∙ then_some_cond _ _) c.put.ensures.puts

@@ -1,7 +1,5 @@
 -- `selector_check::rows_below` meets its contract. The loop's invariant: each row passed is below dim. Assumes nothing.
 use mathlib.Core.Path.{◌≡◌, sym}
-use mathlib.Core.Bool.{true}
-use Prim.Native.Nat.{◌-◌}
 use native.Mathlib.Omega.{arith}
 use lib.ListN.{length}
 use borrow.Author.Tests.{le-ltb, lt-ltb}
@@ -9,19 +7,18 @@ use Rattle.sequence.proofs.Lists.{every_none, every_more, every_fails}
 use Rattle.selector_check.specs.Tests.{rows_below}
 use Rattle.selector_check.proofs.rows_below.Goals as goal
 
+pub loop-row-init : goal.loop-row-init
+loop-row-init c = every_none _
+
 pub returns-then-dim-wide : goal.returns-then-dim-wide
 unfolding rows_below
-returns-then-dim-wide c = sym (every_fails _ c.loop-t.t _ c.loop-t-test.true (le-ltb _ _ (rw c.wide.ensures.0 at c.if-dim-wide.true)))
+returns-then-dim-wide c = sym (every_fails _ c.loop-row.row-index _ c.loop-row-test.true (le-ltb _ _ (rw c.wide.ensures.0 at c.if-dim-wide.true)))
 
-pub loop-t-preserved : goal.loop-t-preserved
-loop-t-preserved c = let l = c.loop-t in
-    (every_more _ l.t l.invariant.0 (lt-ltb _ _ (rw c.wide.ensures.0 at c.if-dim-wide.false)), omega arith)
+pub loop-row-preserved : goal.loop-row-preserved
+loop-row-preserved c = every_more _ c.loop-row.row-index c.loop-row.invariant (lt-ltb _ _ (rw c.wide.ensures.0 at c.if-dim-wide.false))
 
 pub returns : goal.returns
 unfolding rows_below
-returns c = let l = c.loop-t in
-    let e : l.t ≡ length c.args.rows.now = omega arith in
-    sym (rw e at l.invariant.0)
-
-pub loop-t-init : goal.loop-t-init
-loop-t-init c = (every_none _, omega arith)
+returns c = let l = c.loop-row in
+    let e : l.row-index ≡ length c.args.rows.now = omega arith in
+    sym (rw e at l.invariant)

@@ -3,11 +3,11 @@ use Rattle.sequence.proofs.Lists.{failed, held}
 use Rattle.selector_check.specs.Tests.{selector_holds}
 use Rattle.selector_check.proofs.selector_holds.Goals as goal
 
-pub returns-then-not-within : goal.returns-then-not-within
+pub returns-then-within : goal.returns-then-within
 unfolding selector_holds
-returns-then-not-within c = rw (rw c.raw_limit-limit.ensures.0 at (failed c.within.ensures c.if-not-within.true))
+returns-then-within c = let l = c.raw_limit-limit.ensures.0 in
+    rw (rw l at (held c.within.ensures c.if-within.true)) (rw l at c.all_within.ensures)
 
-pub returns : goal.returns
+pub returns-else-within : goal.returns-else-within
 unfolding selector_holds
-returns c = let l = c.raw_limit-limit.ensures.0 in
-    rw (rw l at (held c.within.ensures c.if-not-within.false)) (rw l at c.all_within.ensures)
+returns-else-within c = let f = rw c.raw_limit-limit.ensures.0 at (failed c.within.ensures c.if-within.false) in rw f c.if-within.false

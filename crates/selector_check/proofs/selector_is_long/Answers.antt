@@ -4,10 +4,10 @@ use Rattle.contraction.specs.Contraction.{entry_start}
 use Rattle.selector_check.specs.Tests.{selector_long}
 use Rattle.selector_check.proofs.selector_is_long.Goals as goal
 
-pub returns-then-rows-weights : goal.returns-then-rows-weights
-unfolding selector_long
-returns-then-rows-weights c = rw (ne_eqb _ _ c.if-rows-weights.true)
-
-pub returns : goal.returns
+pub returns-then-entries-selector : goal.returns-then-entries-selector
 unfolding selector_long entry_start
-returns c = rw (eq-eqb _ _ c.if-rows-weights.false) c.counts_sum.ensures
+returns-then-entries-selector c = rw (eq-eqb _ _ c.if-entries-selector.true) c.counts_sum.ensures
+
+pub returns-else-entries-selector : goal.returns-else-entries-selector
+unfolding selector_long
+returns-else-entries-selector c = rw (ne_eqb _ _ c.if-entries-selector.false)

@@ -1,40 +1,32 @@
 -- `sens::contraction_third` meets its contract: refused by a test, short, or contracted. Assumes nothing.
+use mathlib.Core.Path.{◌≡◌, refl}
 use Prim.Native.Nat.{◌*◌, ◌≤◌}
 use native.Mathlib.Omega.{arith}
 use lib.ListN.{length}
 use borrow.Author.Tests.{leb-true}
+use Rattle.std.specs.Prelude.{Err}
 use Rattle.sequence.proofs.Lists.{failed, held}
-use Rattle.network.specs.Numbers.{lent}
-use Rattle.contraction.specs.Contraction.{selector_of}
+use Rattle.sequence.proofs.Answers.{refused}
+use Rattle.selector_check.proofs.Selecting.{dim_in}
 use Rattle.sens.proofs.Returns.{third_refused, third_short, third_done}
 use Rattle.sens.proofs.contraction_third.Goals as goal
 
-pub returns-then-number-ne0 : goal.returns-then-number-ne0
-returns-then-number-ne0 c = let a = c.args in
-    let N = lent a.wiring a.readings a.term_index a.term_coefficient in
-    let S = selector_of a.sign a.counts a.rows a.weights in
-    third_refused N a.mode S a.columns a.parameter.now a.solved.now a.out.now c.third_number-number.ensures.value c.if-number-ne0.true
+pub returns-in_err-site : goal.returns-in_err-site
+returns-in_err-site c = let e : c.from_residual.result ≡ Err c.in_err-site.field-0.0 = grind arith in
+    rw e (third_refused _ _ _ _ _ _ _ c.in_err-site.ensures.number (refused c.in_err-site.field-0.0))
 
 pub returns-then-not-fits : goal.returns-then-not-fits
-returns-then-not-fits c = let a = c.args in
-    let N = lent a.wiring a.readings a.term_index a.term_coefficient in
-    let S = selector_of a.sign a.counts a.rows a.weights in
-    third_short N a.mode S a.columns a.parameter.now a.solved.now a.out.now c.third_number-number.ensures.value c.if-number-ne0.false (failed c.fits.ensures c.if-not-fits.true)
+returns-then-not-fits c = third_short _ _ _ _ _ _ _ c.in_ok-site.ensures.number refl (failed c.fits.ensures c.if-not-fits.true)
 
 pub contract-requires : goal.contract-requires
-contract-requires c = let a = c.args in
-    let t = c.third_number-number.ensures.third_accepted c.if-number-ne0.false in
-    let d = c.dim_of-dim.ensures t.sized in
-    let h : length a.counts.now * a.columns ≤ length a.out.now = leb-true _ _ (held c.fits.ensures c.if-not-fits.false) in rw d (record { entered = t.entered; sided = t.sided; columns_in_bounds = h })
+contract-requires c = let s = c.in_ok-site.ensures in
+    let h : length c.args.selector.counts.now * c.args.columns ≤ length c.args.out.now = leb-true _ _ (held c.fits.ensures c.if-not-fits.false) in
+    rw (dim_in s.accepted c.site_dim.ensures) (record { entered = s.third_accepted.entered; sided = s.third_accepted.sided; columns_in_bounds = h })
 
-pub overflow_mul-count : goal.overflow_mul-count
-overflow_mul-count c = let a = c.args in
-    let h : length a.counts.now * a.columns ≤ length a.out.now = leb-true _ _ (held c.fits.ensures c.if-not-fits.false) in
+pub overflow_mul-result : goal.overflow_mul-result
+overflow_mul-result c = let h : length c.args.selector.counts.now * c.args.columns ≤ length c.args.out.now = leb-true _ _ (held c.fits.ensures c.if-not-fits.false) in
     omega (arith, h, c.well_formed)
 
 pub returns : goal.returns
-returns c = let a = c.args in
-    let N = lent a.wiring a.readings a.term_index a.term_coefficient in
-    let S = selector_of a.sign a.counts a.rows a.weights in
-    let z = c.if-number-ne0.false in
-    third_done N a.mode S a.columns a.parameter.now a.solved.now a.out.now c.third_number-number.ensures.value z (held c.fits.ensures c.if-not-fits.false) (c.dim_of-dim.ensures (c.third_number-number.ensures.third_accepted z).sized) c.contract.ensures
+returns c = let s = c.in_ok-site.ensures in
+    third_done _ _ _ _ _ _ c.args.out.now s.number refl (held c.fits.ensures c.if-not-fits.false) (dim_in s.accepted c.site_dim.ensures) c.contract.ensures

@@ -1,31 +1,20 @@
 -- `sens_dc::kkt_triplets` meets its contract: a law for each return. Assumes nothing.
-use mathlib.Core.Path.{◌∙◌}
+use mathlib.Core.Path.{◌≡◌, refl, ◌∙◌}
+use native.Mathlib.Omega.{arith}
+use Rattle.std.specs.Prelude.{Err}
+use Rattle.sequence.proofs.Answers.{refused}
+use Rattle.solution_check.proofs.Own.{site_sheet}
 use Rattle.sens_dc.proofs.Returns.{matrix_refused, matrix_laid}
 use Rattle.sens_dc.proofs.kkt_triplets.Goals as goal
 
-pub returns-then-number-ne0 : goal.returns-then-number-ne0
-returns-then-number-ne0 c = matrix_refused _ _ _ _ _ _ c.solution_number-number.ensures.value _ c.if-number-ne0.true
-
-pub lay_kkt-requires-clause-wired : goal.lay_kkt-requires-clause-wired
-lay_kkt-requires-clause-wired c = let d = c.solution_number-number.ensures.solved c.if-number-ne0.false in
-    let a = d.accepted in
-    let e = c.counts.ensures in rw e a.wired
-
-pub lay_kkt-requires-clause-readings_laid : goal.lay_kkt-requires-clause-readings_laid
-lay_kkt-requires-clause-readings_laid c = let d = c.solution_number-number.ensures.solved c.if-number-ne0.false in
-    let a = d.accepted in
-    let e = c.counts.ensures in rw e a.read
-
-pub lay_kkt-requires-clause-termed : goal.lay_kkt-requires-clause-termed
-lay_kkt-requires-clause-termed c = let d = c.solution_number-number.ensures.solved c.if-number-ne0.false in
-    let a = d.accepted in
-    let e = c.counts.ensures in rw e a.termed
+pub returns-in_err-site : goal.returns-in_err-site
+returns-in_err-site c = let e : c.from_residual.result ≡ Err c.in_err-site.field-0.0 = grind arith in
+    rw e (matrix_refused _ _ _ _ _ _ c.in_err-site.ensures.number _ (refused c.in_err-site.field-0.0))
 
 pub lay_kkt-requires-clause-sheet_laid : goal.lay_kkt-requires-clause-sheet_laid
-lay_kkt-requires-clause-sheet_laid c = let d = c.solution_number-number.ensures.solved c.if-number-ne0.false in
-    let a = d.accepted in
-    let e = c.counts.ensures in rw e d.laid
+lay_kkt-requires-clause-sheet_laid c = let a = c.in_ok-site.ensures in site_sheet a.accepted a.solved refl
 
 pub returns : goal.returns
-returns c = rw c.counts.ensures at c.lay_kkt.ensures
-    ∙ matrix_laid _ _ _ _ _ _ c.solution_number-number.ensures.value c.if-number-ne0.false
+returns c = let a = c.in_ok-site.ensures in
+    rw (a.accepted.counts, a.accepted.wiring, a.accepted.readings, a.accepted.term_index, a.accepted.term_coefficient) at c.lay_kkt.ensures
+    ∙ matrix_laid _ _ _ _ _ _ a.number refl

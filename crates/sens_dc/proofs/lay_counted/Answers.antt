@@ -3,35 +3,11 @@ use native.Mathlib.Omega.{arith}
 use Rattle.sequence.proofs.Sheets.{lays_short, lays_twice, room_after}
 use Rattle.sens_dc.proofs.lay_counted.Goals as goal
 
-pub put_kkt-count-requires-clause-wired : goal.put_kkt-count-requires-clause-wired
-put_kkt-count-requires-clause-wired c = c.requires.wired
-
-pub put_kkt-count-requires-clause-readings_laid : goal.put_kkt-count-requires-clause-readings_laid
-put_kkt-count-requires-clause-readings_laid c = c.requires.readings_laid
-
-pub put_kkt-count-requires-clause-termed : goal.put_kkt-count-requires-clause-termed
-put_kkt-count-requires-clause-termed c = c.requires.termed
-
-pub put_kkt-count-requires-clause-sheet_laid : goal.put_kkt-count-requires-clause-sheet_laid
-put_kkt-count-requires-clause-sheet_laid c = c.requires.sheet_laid
-
 pub put_kkt-count-requires-clause-room : goal.put_kkt-count-requires-clause-room
 put_kkt-count-requires-clause-room c = record { in_rows = omega arith; in_cols = omega arith; in_values = omega arith; far = omega arith }
 
 pub returns-then-cap-count : goal.returns-then-cap-count
 returns-then-cap-count c = lays_short c.put_kkt-count.ensures.puts c.requires.cap_value c.if-cap-count.true
-
-pub put_kkt-done-requires-clause-wired : goal.put_kkt-done-requires-clause-wired
-put_kkt-done-requires-clause-wired c = c.requires.wired
-
-pub put_kkt-done-requires-clause-readings_laid : goal.put_kkt-done-requires-clause-readings_laid
-put_kkt-done-requires-clause-readings_laid c = c.requires.readings_laid
-
-pub put_kkt-done-requires-clause-termed : goal.put_kkt-done-requires-clause-termed
-put_kkt-done-requires-clause-termed c = c.requires.termed
-
-pub put_kkt-done-requires-clause-sheet_laid : goal.put_kkt-done-requires-clause-sheet_laid
-put_kkt-done-requires-clause-sheet_laid c = c.requires.sheet_laid
 
 pub put_kkt-done-requires-clause-room : goal.put_kkt-done-requires-clause-room
 put_kkt-done-requires-clause-room c = room_after c.put_kkt-count.ensures.puts c.requires.cap_value c.if-cap-count.false

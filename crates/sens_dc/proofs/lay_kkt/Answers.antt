@@ -5,22 +5,6 @@ use Rattle.kkt.specs.Slots.Rule.{first_place}
 use Rattle.kkt_laws.proofs.Bound.{list_length}
 use Rattle.sens_dc.proofs.lay_kkt.Goals as goal
 
-pub put_kkt-count-requires-clause-wired : goal.put_kkt-count-requires-clause-wired
-put_kkt-count-requires-clause-wired c = let r = c.room-cap.ensures in
-    let i = c.if-bound-cap.true in c.requires.wired
-
-pub put_kkt-count-requires-clause-readings_laid : goal.put_kkt-count-requires-clause-readings_laid
-put_kkt-count-requires-clause-readings_laid c = let r = c.room-cap.ensures in
-    let i = c.if-bound-cap.true in c.requires.readings_laid
-
-pub put_kkt-count-requires-clause-termed : goal.put_kkt-count-requires-clause-termed
-put_kkt-count-requires-clause-termed c = let r = c.room-cap.ensures in
-    let i = c.if-bound-cap.true in c.requires.termed
-
-pub put_kkt-count-requires-clause-sheet_laid : goal.put_kkt-count-requires-clause-sheet_laid
-put_kkt-count-requires-clause-sheet_laid c = let r = c.room-cap.ensures in
-    let i = c.if-bound-cap.true in c.requires.sheet_laid
-
 pub put_kkt-count-requires-clause-room : goal.put_kkt-count-requires-clause-room
 put_kkt-count-requires-clause-room c = let r = c.room-cap.ensures in
     let i = c.if-bound-cap.true in record { in_rows = omega (arith, r, i); in_cols = omega (arith, r, i); in_values = omega (arith, r, i); far = omega arith }
@@ -29,18 +13,6 @@ pub returns-then-bound-cap : goal.returns-then-bound-cap
 returns-then-bound-cap c = let a = c.args in
     lays_once c.put_kkt-count.ensures.puts c.room-cap.ensures c.if-bound-cap.true
     (rw c.most-bound.ensures.0 (list_length first_place a.c a.wiring.now a.readings.now a.term_index.now a.term_coefficient.now a.solution.now c.requires.wired))
-
-pub lay_counted-requires-clause-wired : goal.lay_counted-requires-clause-wired
-lay_counted-requires-clause-wired c = c.requires.wired
-
-pub lay_counted-requires-clause-readings_laid : goal.lay_counted-requires-clause-readings_laid
-lay_counted-requires-clause-readings_laid c = c.requires.readings_laid
-
-pub lay_counted-requires-clause-termed : goal.lay_counted-requires-clause-termed
-lay_counted-requires-clause-termed c = c.requires.termed
-
-pub lay_counted-requires-clause-sheet_laid : goal.lay_counted-requires-clause-sheet_laid
-lay_counted-requires-clause-sheet_laid c = c.requires.sheet_laid
 
 pub lay_counted-requires-clause-cap_value : goal.lay_counted-requires-clause-cap_value
 lay_counted-requires-clause-cap_value c = c.room-cap.ensures

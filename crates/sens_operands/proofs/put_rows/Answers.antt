@@ -1,18 +1,17 @@
 -- `sens_operands::put_rows` meets its contract, word by word. Assumes nothing.
-use Prim.Native.Nat.{◌-◌}
 use mathlib.Core.Path.{◌≡◌, refl}
 use native.Mathlib.Omega.{arith}
 use Rattle.sequence.proofs.Fronts.{none, more}
 use Rattle.sens_operands.proofs.put_rows.Goals as goal
 
 pub loop-i-init : goal.loop-i-init
-loop-i-init c = (none _ _, omega arith)
+loop-i-init c = none _ _
 
 pub loop-i-preserved : goal.loop-i-preserved
-loop-i-preserved c = let l = c.loop-i in (more _ (omega arith) l.invariant.0 refl, omega arith)
+loop-i-preserved c = let l = c.loop-i in more _ (omega arith) l.invariant refl
 
 pub returns : goal.returns
 returns c = let l = c.loop-i in
     let e : l.i ≡ c.args.n = omega arith in
-    let p = rw e at l.invariant.0 in
+    let p = rw e at l.invariant in
     p.is

@@ -1,5 +1,4 @@
 -- `sens_parameters::columns_hold` meets its contract: a column more each turn. Assumes nothing.
-use Prim.Native.Nat.{◌-◌, ◌≤◌}
 use mathlib.Core.Path.{◌≡◌}
 use mathlib.Core.Bool.{true}
 use lib.Dec.{ltb}
@@ -7,8 +6,5 @@ use lib.ListN.{get_or}
 use Rattle.sequence.specs.Lists.{every}
 use Rattle.sens_parameters.proofs.columns_hold.Given as goal
 
-abbrev pub invariant-loop-t : goal.invariant-loop-t
-invariant-loop-t l = (every (λ i. ltb (get_or l.columns i 0) l.most) l.t ≡ true) × (l.t ≤ l.to)
-
-abbrev pub decreases-loop-t : goal.decreases-loop-t
-decreases-loop-t l = l.to - l.t
+abbrev pub invariant-loop-column : goal.invariant-loop-column
+invariant-loop-column l = every (λ i. ltb (get_or l.columns i 0) l.most) l.column-index ≡ true

@@ -1,25 +1,27 @@
 -- `sens_parameters::parameter_jacobian` meets its contract: a law for each return. Assumes nothing.
-use mathlib.Core.Path.{sym, ◌∙◌}
-use Rattle.sens_parameters.proofs.Returns.{jacobian_refused, jacobian_served, jacobian_unknown}
+use mathlib.Core.Path.{◌≡◌, refl, sym, ◌∙◌}
+use native.Mathlib.Omega.{arith}
+use Rattle.std.specs.Prelude.{Err}
+use Rattle.sequence.proofs.Answers.{refused}
+use Rattle.sens_parameters.proofs.Returns.{jacobian_refused, jacobian_served, jacobian_empty, jacobian_unknown}
 use Rattle.sens_parameters.proofs.parameter_jacobian.Goals as goal
 
-pub returns-then-number-ne0 : goal.returns-then-number-ne0
-returns-then-number-ne0 c = let a = c.args in jacobian_refused _ _ a.p a.columns.now a.sheet.now c.solution_number-number.ensures.value c.if-number-ne0.true
+pub returns-in_err-site : goal.returns-in_err-site
+returns-in_err-site c = let a = c.args in
+    let r = c.in_err-site in
+    let e : c.from_residual.result ≡ Err r.field-0.0 = grind arith in
+    rw e (jacobian_refused _ _ a.p a.columns.now a.sheet.now r.ensures.number (refused r.field-0.0))
 
-pub served_columns-requires-clause-wired : goal.served_columns-requires-clause-wired
-served_columns-requires-clause-wired c = let d = c.solution_number-number.ensures.solved c.if-number-ne0.false in let a = d.accepted in let e = c.counts.ensures in rw e a.wired
+pub returns-then-is_empty : goal.returns-then-is_empty
+returns-then-is_empty c = let a = c.args in
+    jacobian_empty _ _ a.p a.columns.now a.sheet.now c.in_ok-site.ensures.number refl (sym c.served_of.ensures ∙ c.in_default.is) (grind arith)
 
-pub served_columns-requires-clause-readings_laid : goal.served_columns-requires-clause-readings_laid
-served_columns-requires-clause-readings_laid c = let d = c.solution_number-number.ensures.solved c.if-number-ne0.false in let a = d.accepted in let e = c.counts.ensures in rw e a.read
+pub returns-else-is_empty : goal.returns-else-is_empty
+returns-else-is_empty c = let a = c.args in
+    jacobian_unknown _ _ a.p a.columns.now a.sheet.now c.in_ok-site.ensures.number refl (sym c.served_of.ensures ∙ c.in_default.is) (grind arith)
 
-pub served_columns-requires-clause-termed : goal.served_columns-requires-clause-termed
-served_columns-requires-clause-termed c = let d = c.solution_number-number.ensures.solved c.if-number-ne0.false in let a = d.accepted in let e = c.counts.ensures in rw e a.termed
-
-pub served_columns-requires-clause-sheet_laid : goal.served_columns-requires-clause-sheet_laid
-served_columns-requires-clause-sheet_laid c = let d = c.solution_number-number.ensures.solved c.if-number-ne0.false in let a = d.accepted in let e = c.counts.ensures in rw e d.laid
-
-pub returns-in-Known : goal.returns-in-Known
-returns-in-Known c = let a = c.args in rw c.counts.ensures at c.served_columns.ensures ∙ jacobian_served _ _ a.p a.columns.now a.sheet.now c.solution_number-number.ensures.value c.if-number-ne0.false _ (sym c.served_of-k.ensures ∙ c.in-Known.is)
-
-pub returns-in-Unknown : goal.returns-in-Unknown
-returns-in-Unknown c = let a = c.args in jacobian_unknown _ _ a.p a.columns.now a.sheet.now c.solution_number-number.ensures.value c.if-number-ne0.false (sym c.served_of-k.ensures ∙ c.in-Unknown.is) c.four_if.ensures
+pub returns : goal.returns
+returns c = let a = c.args in
+    let h = c.in_ok-site.ensures in
+    rw (h.accepted.counts, h.accepted.wiring, h.accepted.readings, h.accepted.term_index, h.accepted.term_coefficient) at c.served_columns.ensures
+    ∙ jacobian_served _ _ a.p a.columns.now a.sheet.now h.number refl _ (sym c.served_of.ensures ∙ c.in-Some.is)

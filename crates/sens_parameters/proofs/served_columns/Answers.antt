@@ -1,33 +1,19 @@
 -- `sens_parameters::served_columns` meets its contract: a law for each return. Assumes nothing.
-use Rattle.sens_parameters.proofs.Returns.{served_refused, served_short, served_done}
+use mathlib.Core.Path.{◌≡◌, refl, ◌∙◌}
+use native.Mathlib.Omega.{arith}
+use Rattle.std.specs.Prelude.{Err}
+use Rattle.sequence.proofs.Answers.{refused}
+use Rattle.sens_parameters.proofs.Returns.{served_refused, served_laid}
 use Rattle.sens_parameters.proofs.served_columns.Goals as goal
 
-pub columns_number-number-requires : goal.columns_number-number-requires
-columns_number-number-requires c = c.requires.wired.laid
-
-pub returns-then-number-ne0 : goal.returns-then-number-ne0
-returns-then-number-ne0 c = let a = c.args in served_refused a.c a.wiring.now a.term_index.now a.term_coefficient.now a.readings.now a.solution.now a.k a.columns.now a.sheet.now c.columns_number-number.ensures.value c.if-number-ne0.true
-
-pub piece_count-p-requires : goal.piece_count-p-requires
-piece_count-p-requires c = c.requires.wired.laid
-
-pub lay_columns-requires-clause-wired : goal.lay_columns-requires-clause-wired
-lay_columns-requires-clause-wired c = let a = c.args in let q = c.piece_count-p.ensures in c.requires.wired
-
-pub lay_columns-requires-clause-readings_laid : goal.lay_columns-requires-clause-readings_laid
-lay_columns-requires-clause-readings_laid c = let a = c.args in let q = c.piece_count-p.ensures in c.requires.readings_laid
-
-pub lay_columns-requires-clause-termed : goal.lay_columns-requires-clause-termed
-lay_columns-requires-clause-termed c = let a = c.args in let q = c.piece_count-p.ensures in c.requires.termed
-
-pub lay_columns-requires-clause-sheet_laid : goal.lay_columns-requires-clause-sheet_laid
-lay_columns-requires-clause-sheet_laid c = let a = c.args in let q = c.piece_count-p.ensures in (rw q.0 c.requires.sheet_laid, q.1)
-
-pub lay_columns-requires-clause-by_index : goal.lay_columns-requires-clause-by_index
-lay_columns-requires-clause-by_index c = let a = c.args in let q = c.piece_count-p.ensures in c.columns_number-number.ensures.t_bound c.if-number-ne0.false
-
-pub returns-then-lay_columns : goal.returns-then-lay_columns
-returns-then-lay_columns c = let a = c.args in let q = c.piece_count-p.ensures.0 in let x = rw q at c.lay_columns.ensures.value in let y = rw q at c.lay_columns.ensures.sheet_after in served_done a.c a.wiring.now a.term_index.now a.term_coefficient.now a.readings.now a.solution.now a.k a.columns.now a.sheet.now c.columns_number-number.ensures.value c.if-number-ne0.false x c.if-lay_columns.true y
+pub returns-in_err-accept_columns : goal.returns-in_err-accept_columns
+returns-in_err-accept_columns c = let a = c.args in
+    let s = a.site in
+    let r = c.in_err-accept_columns in
+    let e : c.from_residual.result ≡ Err r.field-0.0 = grind arith in
+    rw e (served_refused s.counts s.wiring.now s.term_index.now s.term_coefficient.now s.readings.now a.solution.now a.k a.columns.now a.sheet.now r.ensures.number (refused r.field-0.0))
 
 pub returns : goal.returns
-returns c = let a = c.args in let q = c.piece_count-p.ensures.0 in let x = rw q at c.lay_columns.ensures.value in let y = rw q at c.lay_columns.ensures.sheet_after in served_short a.c a.wiring.now a.term_index.now a.term_coefficient.now a.readings.now a.solution.now a.k a.columns.now a.sheet.now c.columns_number-number.ensures.value c.if-number-ne0.false x c.if-lay_columns.false y
+returns c = let a = c.args in
+    let s = a.site in
+    c.lay_columns.ensures ∙ served_laid s.counts s.wiring.now s.term_index.now s.term_coefficient.now s.readings.now a.solution.now a.k a.columns.now a.sheet.now c.in_ok-accept_columns.ensures.number refl

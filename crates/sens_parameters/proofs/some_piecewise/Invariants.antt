@@ -1,5 +1,4 @@
 -- `sens_parameters::some_piecewise` meets its contract: a generator more each turn. Assumes nothing.
-use Prim.Native.Nat.{◌-◌, ◌≤◌}
 use mathlib.Core.Path.{◌≡◌}
 use mathlib.Core.Bool.{false, not}
 use lib.Dec.{eqb}
@@ -8,8 +7,5 @@ use Rattle.sequence.specs.Lists.{some}
 use Rattle.network.specs.Layout.{segments_at}
 use Rattle.sens_parameters.proofs.some_piecewise.Given as goal
 
-abbrev pub invariant-loop-t : goal.invariant-loop-t
-invariant-loop-t l = (some (λ i. not (eqb (segments_at l.c l.wiring (get_or l.columns i 0)) 0)) l.t ≡ false) × (l.t ≤ l.to)
-
-abbrev pub decreases-loop-t : goal.decreases-loop-t
-decreases-loop-t l = l.to - l.t
+abbrev pub invariant-loop-column : goal.invariant-loop-column
+invariant-loop-column l = some (λ i. not (eqb (segments_at l.c l.wiring (get_or l.columns i 0)) 0)) l.column-index ≡ false

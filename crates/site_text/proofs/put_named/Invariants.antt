@@ -1,15 +1,11 @@
 -- `site_text::put_named` meets its contract. The loop's invariant: the lines of the first t triplets are written. Assumes nothing.
-use mathlib.Core.Path.{◌≡◌}
-use Prim.Native.Nat.{◌+◌, ◌*◌, ◌-◌, ◌≤◌}
-use lib.ListN.{length}
+use Prim.Native.Nat.{◌+◌, ◌*◌, ◌≤◌}
 use Rattle.kkt_index.specs.Index.{start_in}
 use Rattle.change_table.specs.Table.{cells_of, cells_at}
-use Rattle.site_text.specs.Writing.{Wrote}
+use Rattle.site_text.specs.Writing.{Adds}
 use Rattle.site_text.proofs.Named.{lines_of}
 use Rattle.site_text.proofs.put_named.Given as goal
 
 abbrev pub invariant-loop-t : goal.invariant-loop-t
-invariant-loop-t l = (l.t ≤ l.count) × ((l.k ≤ l.at + 59 * l.t) × ((length l.out ≡ length l.initial.out) × Wrote (lines_of (cells_at (start_in l.x) (cells_of l.c l.wiring l.f l.i)) l.rows l.cols l.values l.t) l.initial.out l.out l.at l.k))
-
-abbrev pub decreases-loop-t : goal.decreases-loop-t
-decreases-loop-t l = l.count - l.t
+invariant-loop-t l = Adds (lines_of (cells_at (start_in l.x) (cells_of l.c l.wiring l.f l.i)) l.rows l.cols l.values l.t) l.initial.text l.text
+    × (l.text.len ≤ l.initial.text.len + 59 * l.t)

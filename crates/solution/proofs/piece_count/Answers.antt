@@ -1,6 +1,5 @@
 -- `solution::piece_count` meets its contract. The loop's invariant: the piecewise generators passed. Assumes nothing.
 use mathlib.Core.Path.{◌≡◌, refl}
-use Prim.Native.Nat.{◌-◌}
 use native.Mathlib.Omega.{arith}
 use Rattle.sequence.proofs.Lists.{before_none}
 use Rattle.solution.specs.Sheet.{piece_rank}

@@ -1,5 +1,5 @@
 -- `susceptance::link_ends` meets its contract: the ends from 2e on are linked. Assumes nothing.
-use Prim.Native.Nat.{◌-◌, ◌*◌, ◌≤◌}
+use Prim.Native.Nat.{◌*◌}
 use mathlib.Core.Path.{◌≡◌}
 use lib.ListN.{length}
 use Rattle.sequence.specs.Links.{Links}
@@ -7,7 +7,4 @@ use Rattle.susceptance.specs.Incidence.{end_at}
 use Rattle.susceptance.proofs.link_ends.Given as goal
 
 abbrev pub invariant-loop-e : goal.invariant-loop-e
-invariant-loop-e l = Links (end_at l.c l.wiring) l.c.buses (2 * l.c.branches) (2 * l.e) l.head l.next × (length l.head ≡ length l.initial.head) × (length l.next ≡ length l.initial.next) × (l.e ≤ l.c.branches)
-
-abbrev pub decreases-loop-e : goal.decreases-loop-e
-decreases-loop-e l = l.e
+invariant-loop-e l = Links (end_at l.c l.wiring) l.c.buses (2 * l.c.branches) (2 * l.e) l.head l.next × (length l.head ≡ length l.initial.head) × (length l.next ≡ length l.initial.next)

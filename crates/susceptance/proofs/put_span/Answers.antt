@@ -1,5 +1,4 @@
 -- `susceptance::put_span` meets its contract: a cell more each turn. Assumes nothing.
-use Prim.Native.Nat.{◌-◌}
 use native.Mathlib.Omega.{arith}
 use Rattle.sequence.proofs.Sheets.{begin, more, done, none, put_of}
 use Rattle.susceptance.specs.Incidence.{cell_at, span_at}

@@ -1,5 +1,4 @@
 -- `susceptance::put_susceptance` meets its contract: a row more each turn. Assumes nothing.
-use Prim.Native.Nat.{◌-◌}
 use native.Mathlib.Omega.{arith}
 use Rattle.sequence.proofs.Sheets.{begin, more, done}
 use Rattle.susceptance.specs.Susceptance.{susceptance_coo}

@@ -1,5 +1,4 @@
 -- `susceptance::walk` meets its contract: the row after the ends below x. Assumes nothing.
-use Prim.Native.Nat.{◌-◌}
 use native.Mathlib.Omega.{arith}
 use Rattle.sequence.proofs.Links.{head_of, next_of}
 use Rattle.susceptance.proofs.Incidence.{row_begin, row_more, row_done}

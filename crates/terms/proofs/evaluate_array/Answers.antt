@@ -1,11 +1,18 @@
--- `terms::evaluate_array` meets its contract: the arrays hold the terms apart, and their fronts are the first terms. Assumes nothing.
-use mathlib.Core.Path.{refl, ◌∙◌}
-use lib.Dec.{leb}
-use borrow.Author.Rules.{rules}
-use Rattle.terms.proofs.Apart.{array_called}
+-- `terms::evaluate_array` meets its contract: as many terms as the array has, or a wrong length. Assumes nothing.
+use mathlib.Core.Path.{◌≡◌}
+use Prim.Native.Nat.{◌-◌}
+use native.Mathlib.Omega.{arith}
+use borrow.Author.Tests.{le-leb, lt-leb}
+use Rattle.terms.specs.Terms.{array_call}
 use Rattle.terms.proofs.evaluate_array.Goals as goal
 
+pub returns-in_default : goal.returns-in_default
+unfolding array_call
+returns-in_default c = rw (lt-leb c.args.n 1024 (grind arith))
+
 pub returns : goal.returns
-returns c = let a = c.args in
-    c.evaluate_columns.ensures
-    ∙ array_called a.wiring.now a.readings.now a.terms _ a.n a.row a.f.now a.pg.now a.out.now (search rules) c.array_apart.ensures (leb a.n 1024) refl
+unfolding array_call
+returns c = let n = c.args.n in
+    let e = c.in-Some.ensures.lookup.0 in
+    let all : n - 0 ≡ n = omega arith in
+    rw (le-leb n 1024 (omega arith), ← (rw all at e.2)) c.evaluate.ensures

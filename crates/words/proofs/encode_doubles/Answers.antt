@@ -1,9 +1,7 @@
 -- `words::encode_doubles` meets its contract. The loop's invariant: the bytes of i doubles stand in front, and the rest is as it was. Assumes nothing.
 use mathlib.Core.Path.{◌≡◌, ap}
-use Prim.Native.Nat.{◌+◌, ◌*◌, ◌≤◌, ◌<◌, ◌-◌}
 use native.Mathlib.Omega.{arith}
 use lib.Ieee.{Float, nan, binary64, to_bits}
-use lib.ListN.{length}
 use borrow.Author.Rules.{rules}
 use Rattle.sequence.specs.Lists.{front}
 use Rattle.words.specs.Words.{bytes_of, joined}
@@ -16,17 +14,7 @@ loop-i-init c = search rules
 
 pub loop-i-preserved : goal.loop-i-preserved
 loop-i-preserved c = let own = c.args in
-    let l : c.loop-i.i < length own.from.now = omega arith in
-    let h : 8 * c.loop-i.i + 8 ≤ length own.out.now = omega arith in (
-      omega arith,
-      (
-        omega arith,
-        joined_turn (λ (x : Float). bytes_of 8 (to_bits binary64 x)) 8 (λ (x : Float). bytes_length 8 (to_bits binary64 x)) own.from.now _ nan own.out.now _ _ _ l h c.loop-i.invariant.1.1 (ap (bytes_of 8) c.pattern.ensures) c.put.ensures,
-      ),
-    )
+    joined_turn (λ (x : Float). bytes_of 8 (to_bits binary64 x)) 8 (λ (x : Float). bytes_length 8 (to_bits binary64 x)) own.from.now _ nan own.out.now _ _ _ (omega arith) (omega arith) c.loop-i.invariant (ap (bytes_of 8) c.pattern.ensures) c.put.ensures
 
 pub returns-clause-out_after : goal.returns-clause-out_after
-returns-clause-out_after c = let e : c.loop-i.i ≡ c.args.n = omega arith in rw e at c.loop-i.invariant.1.1
-
-pub returns-clause-kept : goal.returns-clause-kept
-returns-clause-kept c = let e : c.loop-i.i ≡ c.args.n = omega arith in c.loop-i.invariant.1.0
+returns-clause-out_after c = let e : c.loop-i.i ≡ c.args.n = omega arith in rw e at c.loop-i.invariant

@@ -1,7 +1,6 @@
 -- `capi::buses::capi_phase_withdrawal` meets its contract: refused at once, or the call on what was decoded. Assumes nothing.
 use mathlib.Core.Path.{◌∙◌}
 use mathlib.Core.Bool.{Bool}
-use borrow.Author.Tests.{not-false}
 use Rattle.words.specs.Words.{doubles_of}
 use Rattle.network.specs.Numbers.{Network}
 use Rattle.model.specs.Calls.{phase_call}
@@ -9,40 +8,16 @@ use Rattle.decoding.specs.Exports.{filled_out}
 use Rattle.decoding.proofs.Answered.{bus_one, unsized, cut_count, cut_cells, told}
 use Rattle.capi.proofs.buses.capi_phase_withdrawal.Goals as goal
 
-pub returns-then-not-l : goal.returns-then-not-l
-returns-then-not-l c = bus_one _ _ _ _ _ (unsized c.take_network-l.ensures c.if-not-l.true)
-
-pub slice_bounds-w-end : goal.slice_bounds-w-end
-slice_bounds-w-end c = (c.take_network-l.ensures.decoded (not-false _ c.if-not-l.false)).1.wiring_room
+pub returns-in_default : goal.returns-in_default
+returns-in_default c = rw c.pack.ensures (bus_one _ _ _ _ _ (unsized _ _ c.in_default.ensures.refused))
 
 pub slice_bounds-phase_withdrawal_out-end : goal.slice_bounds-phase_withdrawal_out-end
-slice_bounds-phase_withdrawal_out-end c = cut_count _ _ (c.take_network-l.ensures.decoded (not-false _ c.if-not-l.false)).1.wiring_room
-
-pub slice_bounds-r-end : goal.slice_bounds-r-end
-slice_bounds-r-end c = (c.take_network-l.ensures.decoded (not-false _ c.if-not-l.false)).1.readings_room
-
-pub slice_bounds-phase_withdrawal_out-end-2 : goal.slice_bounds-phase_withdrawal_out-end-2
-slice_bounds-phase_withdrawal_out-end-2 c = cut_count _ _ (c.take_network-l.ensures.decoded (not-false _ c.if-not-l.false)).1.readings_room
-
-pub slice_bounds-i-end : goal.slice_bounds-i-end
-slice_bounds-i-end c = (c.take_network-l.ensures.decoded (not-false _ c.if-not-l.false)).1.indexes_room
-
-pub slice_bounds-phase_withdrawal_out-end-3 : goal.slice_bounds-phase_withdrawal_out-end-3
-slice_bounds-phase_withdrawal_out-end-3 c = cut_count _ _ (c.take_network-l.ensures.decoded (not-false _ c.if-not-l.false)).1.indexes_room
-
-pub slice_bounds-k-end : goal.slice_bounds-k-end
-slice_bounds-k-end c = (c.take_network-l.ensures.decoded (not-false _ c.if-not-l.false)).1.coefficients_room
-
-pub slice_bounds-phase_withdrawal_out-end-4 : goal.slice_bounds-phase_withdrawal_out-end-4
-slice_bounds-phase_withdrawal_out-end-4 c = cut_count _ _ (c.take_network-l.ensures.decoded (not-false _ c.if-not-l.false)).1.coefficients_room
-
-pub slice_bounds-phase_withdrawal_out-end-5 : goal.slice_bounds-phase_withdrawal_out-end-5
-slice_bounds-phase_withdrawal_out-end-5 c = cut_count _ _ c.cells_for-n.ensures.below
+slice_bounds-phase_withdrawal_out-end c = cut_count _ _ c.cells_for-n.ensures.below
 
 pub phase_withdrawal_out-requires : goal.phase_withdrawal_out-requires
 phase_withdrawal_out-requires c = cut_cells _ c.cells_for-n.ensures.below c.cells_for-n.ensures
 
 pub returns : goal.returns
 returns c = let a = c.args in
-    let h = c.take_network-l.ensures.decoded (not-false _ c.if-not-l.false) in
-    c.phase_withdrawal_out.ensures ∙ told (λ (b : Bool) (N : Network). filled_out b (phase_call N (doubles_of a.sheet.now)) a.sheet.now) h.0 h.1.network
+    let h = c.in-Some.ensures.decoded in
+    c.phase_withdrawal_out.ensures ∙ told (λ (b : Bool) (N : Network). filled_out b (phase_call N (doubles_of a.sheet.now)) a.sheet.now) h.0 h.1

@@ -5,9 +5,9 @@ use Rattle.decoding.proofs.Answered.{element_answer, element_count}
 use Rattle.capi.proofs.element.current_flow_offset_out.Goals as goal
 
 pub answered-requires : goal.answered-requires
-answered-requires c = let e = c.current_flow_offset-a.ensures in
+answered-requires c = let e = c.current_flow_offset-answer.ensures in
     omega (arith, element_count _ _ _ _ _ _ c.args.sheet.now c.args.cells.now c.requires e, c.requires.below, c.requires.within)
 
 pub returns : goal.returns
-returns c = let e = c.current_flow_offset-a.ensures in
+returns c = let e = c.current_flow_offset-answer.ensures in
     c.answered.ensures ∙ element_answer _ _ _ _ _ _ c.args.sheet.now c.args.cells.now c.requires e

@@ -1,41 +1,16 @@
 -- `capi::number::capi_row_kind` meets its contract: 1 at once, or the number and kind of what was decoded. Assumes nothing.
 use mathlib.Core.Path.{◌∙◌}
 use mathlib.Core.Bool.{Bool, cond}
-use borrow.Author.Tests.{not-false}
 use Rattle.network.specs.Numbers.{Network}
 use Rattle.model.specs.Calls.{row_kind_call}
 use Rattle.decoding.specs.Exports.{packed}
-use Rattle.decoding.proofs.Answered.{kind_one, cut_count, told}
+use Rattle.decoding.proofs.Answered.{kind_one, told}
 use Rattle.capi.proofs.number.capi_row_kind.Goals as goal
 
-pub returns-then-not-l : goal.returns-then-not-l
-returns-then-not-l c = kind_one c.args.row c.take_network-l.ensures c.if-not-l.true
-
-pub slice_bounds-w-end : goal.slice_bounds-w-end
-slice_bounds-w-end c = (c.take_network-l.ensures.decoded (not-false _ c.if-not-l.false)).1.wiring_room
-
-pub slice_bounds-row_kind_out-end : goal.slice_bounds-row_kind_out-end
-slice_bounds-row_kind_out-end c = cut_count _ _ (c.take_network-l.ensures.decoded (not-false _ c.if-not-l.false)).1.wiring_room
-
-pub slice_bounds-r-end : goal.slice_bounds-r-end
-slice_bounds-r-end c = (c.take_network-l.ensures.decoded (not-false _ c.if-not-l.false)).1.readings_room
-
-pub slice_bounds-row_kind_out-end-2 : goal.slice_bounds-row_kind_out-end-2
-slice_bounds-row_kind_out-end-2 c = cut_count _ _ (c.take_network-l.ensures.decoded (not-false _ c.if-not-l.false)).1.readings_room
-
-pub slice_bounds-i-end : goal.slice_bounds-i-end
-slice_bounds-i-end c = (c.take_network-l.ensures.decoded (not-false _ c.if-not-l.false)).1.indexes_room
-
-pub slice_bounds-row_kind_out-end-3 : goal.slice_bounds-row_kind_out-end-3
-slice_bounds-row_kind_out-end-3 c = cut_count _ _ (c.take_network-l.ensures.decoded (not-false _ c.if-not-l.false)).1.indexes_room
-
-pub slice_bounds-k-end : goal.slice_bounds-k-end
-slice_bounds-k-end c = (c.take_network-l.ensures.decoded (not-false _ c.if-not-l.false)).1.coefficients_room
-
-pub slice_bounds-row_kind_out-end-4 : goal.slice_bounds-row_kind_out-end-4
-slice_bounds-row_kind_out-end-4 c = cut_count _ _ (c.take_network-l.ensures.decoded (not-false _ c.if-not-l.false)).1.coefficients_room
+pub returns-in_default : goal.returns-in_default
+returns-in_default c = rw c.pack.ensures (kind_one _ _ c.args.row c.in_default.ensures.refused)
 
 pub returns : goal.returns
 returns c = let a = c.args in
-    let h = c.take_network-l.ensures.decoded (not-false _ c.if-not-l.false) in
-    c.row_kind_out.ensures ∙ told (λ (b : Bool) (N : Network). cond b (packed (row_kind_call N a.row).number (row_kind_call N a.row).kind) 1) h.0 h.1.network
+    let h = c.in-Some.ensures.decoded in
+    c.row_kind_out.ensures ∙ told (λ (b : Bool) (N : Network). cond b (packed (row_kind_call N a.row).number (row_kind_call N a.row).kind) 1) h.0 h.1

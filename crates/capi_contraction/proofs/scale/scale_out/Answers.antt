@@ -7,9 +7,9 @@ use Rattle.capi_contraction.proofs.scale.scale_out.Goals as goal
 
 pub answered-requires : goal.answered-requires
 answered-requires c = let a = c.args in
-    omega (arith, scaled_count a.base a.sheet.now a.cells.now c.requires (operand_of a.operand) (parameter_of a.parameter) c.scale-a.ensures, c.requires.below, c.requires.within)
+    omega (arith, scaled_count a.base a.sheet.now a.cells.now c.requires (operand_of a.operand) (parameter_of a.parameter) c.scale-answer.ensures, c.requires.below, c.requires.within)
 
 pub returns : goal.returns
 returns c = let a = c.args in
     c.answered.ensures
-    ∙ scaled_answer a.base a.sheet.now a.cells.now c.requires (operand_of a.operand) (parameter_of a.parameter) c.scale-a.ensures
+    ∙ scaled_answer a.base a.sheet.now a.cells.now c.requires (operand_of a.operand) (parameter_of a.parameter) c.scale-answer.ensures

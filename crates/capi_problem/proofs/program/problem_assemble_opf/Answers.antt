@@ -7,18 +7,8 @@ use Rattle.capi_problem.proofs.program.problem_assemble_opf.Goals as goal
 pub pack_both-requires : goal.pack_both-requires
 pack_both-requires c = let a = c.args in
     let s = program a.p_rows.now a.p_cols.now a.p_values.now a.a_rows.now a.a_cols.now a.a_values.now a.q.now a.b.now a.cones.now in
-    let h = counts_small _ s c.assemble_opf-a.ensures in
+    let h = counts_small _ s c.assemble_opf.ensures in
     (omega (arith, h.0), omega (arith, h.1))
 
--- left (no goal same-length): c.before.before.before.before.before.before.before.before.before.before.before.before.before.before.before.before.before.before.before.assemble_opf.auto.1.1.1.1.0
--- left (no goal same-length-2): c.before.before.before.before.before.before.before.before.before.before.before.before.before.before.before.before.before.before.before.assemble_opf.auto.1.1.1.1.1.0
--- left (no goal same-length-3): c.before.before.before.before.before.before.before.before.before.before.before.before.before.before.before.before.before.before.before.assemble_opf.auto.1.1.1.1.1.1.0
--- left (no goal same-length-4): c.before.before.before.before.before.before.before.before.before.before.before.before.before.before.before.before.before.before.before.assemble_opf.auto.1.1.1.1.1.1.1.0
--- left (no goal same-length-5): c.before.before.before.before.before.before.before.before.before.before.before.before.before.before.before.before.before.before.before.assemble_opf.auto.1.1.1.1.1.1.1.1.0
--- left (no goal same-length-6): c.before.before.before.before.before.before.before.before.before.before.before.before.before.before.before.before.before.before.before.assemble_opf.auto.1.1.1.1.1.1.1.1.1.0
--- left (no goal same-length-7): c.before.before.before.before.before.before.before.before.before.before.before.before.before.before.before.before.before.before.before.assemble_opf.auto.1.1.1.1.1.1.1.1.1.1.0
--- left (no goal same-length-8): c.before.before.before.before.before.before.before.before.before.before.before.before.before.before.before.before.before.before.before.assemble_opf.auto.1.1.1.1.1.1.1.1.1.1.1.0
--- left (no goal same-length-9): c.before.before.before.before.before.before.before.before.before.before.before.before.before.before.before.before.before.before.before.assemble_opf.auto.1.1.1.1.1.1.1.1.1.1.1.1.0
-
 pub returns : goal.returns
-returns c = packs c.pack_both.ensures c.assemble_opf-a.ensures
+returns c = packs c.pack_both.ensures c.assemble_opf.ensures

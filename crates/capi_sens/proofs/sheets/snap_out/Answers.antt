@@ -5,9 +5,7 @@ use Rattle.capi_sens.proofs.Solved.{snap_few, solved_answer, solved_count}
 use Rattle.capi_sens.proofs.sheets.snap_out.Goals as goal
 
 pub answered-requires : goal.answered-requires
-answered-requires c = let e = c.snap-a.ensures in
-    omega (arith, solved_count _ _ _ (snap_few _ _) c.args.sheet.now c.args.cells.now c.requires e, c.requires.below, c.requires.within)
+answered-requires c = omega (arith, solved_count _ _ _ (snap_few _ _) c.args.sheet.now c.args.cells.now c.requires c.snap-answer.ensures, c.requires.below, c.requires.within)
 
 pub returns : goal.returns
-returns c = let e = c.snap-a.ensures in
-    c.answered.ensures ∙ solved_answer _ _ _ (snap_few _ _) c.args.sheet.now c.args.cells.now c.requires e
+returns c = c.answered.ensures ∙ solved_answer _ _ _ (snap_few _ _) c.args.sheet.now c.args.cells.now c.requires c.snap-answer.ensures

@@ -41,12 +41,12 @@ returns-then-not-in_range c = let a = c.args in
     let e = in_limits a.base c.base_low.ensures c.base_high.ensures c.in_range.ensures in
     outside a.o a.p a.base a.out.now (failed e c.if-not-in_range.true)
 
-pub returns-then-out-lt1 : goal.returns-then-out-lt1
-returns-then-out-lt1 c = let a = c.args in
+pub returns-then-is_empty : goal.returns-then-is_empty
+returns-then-is_empty c = let a = c.args in
     let e = in_limits a.base c.base_low.ensures c.base_high.ensures c.in_range.ensures in
-    no_room a.o a.p a.base a.out.now (held e c.if-not-in_range.false) c.if-out-lt1.true
+    no_room a.o a.p a.base a.out.now (held e c.if-not-in_range.false) (grind arith)
 
 pub returns : goal.returns
 returns c = let a = c.args in
     let e = in_limits a.base c.base_low.ensures c.base_high.ensures c.in_range.ensures in
-    done a.o a.p a.base a.out.now (held e c.if-not-in_range.false) c.if-out-lt1.false (rw (c.operand_served_scale.ensures, c.parameter_served_scale.ensures))
+    done a.o a.p a.base a.out.now (held e c.if-not-in_range.false) (grind arith) (rw (c.operand_served_scale.ensures, c.parameter_served_scale.ensures))

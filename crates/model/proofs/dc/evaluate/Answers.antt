@@ -1,45 +1,33 @@
 -- `model::dc::evaluate` meets its contract: a law for each return. Assumes nothing.
-use mathlib.Core.Path.{sym, ◌∙◌}
+use mathlib.Core.Path.{◌≡◌, refl, sym, ◌∙◌}
+use native.Mathlib.Omega.{arith}
+use Rattle.std.specs.Prelude.{Err}
 use lib.ListN.{length, get_or}
+use Rattle.sequence.proofs.Answers.{refused}
 use Rattle.model.proofs.Calls.{element_refused, element_stops, element_done, own_tests_lem, own_sizes, both_equal}
 use Rattle.model.proofs.dc.evaluate.Goals as goal
 
-pub returns-then-number-ne0 : goal.returns-then-number-ne0
-returns-then-number-ne0 c = element_refused _ _ _ _ _ _ _ (own_tests_lem _ c.flows_and_powers-sizes.ensures c.both_within-values.ensures c.network_number_with-number.ensures.value) c.if-number-ne0.true
+pub returns-in_err-site : goal.returns-in_err-site
+returns-in_err-site c = let e : c.from_residual.result ≡ Err c.in_err-site.field-0.0 = grind arith in
+    rw e (element_refused _ _ _ _ _ _ _ (own_tests_lem _ c.flows_and_powers-sizes.ensures c.both_within-values.ensures c.in_err-site.ensures.number) (refused c.in_err-site.field-0.0))
 
-pub returns-then-element-ne0 : goal.returns-then-element-ne0
-returns-then-element-ne0 c = element_stops _ _ _ _ _ _ _ (own_tests_lem _ c.flows_and_powers-sizes.ensures c.both_within-values.ensures c.network_number_with-number.ensures.value) c.if-number-ne0.false (rw c.counts-c.ensures at c.element_number-element.ensures.value) c.if-element-ne0.true
-
-pub evaluate_at-requires-clause-wired : goal.evaluate_at-requires-clause-wired
-evaluate_at-requires-clause-wired c = let l = (c.element_number-element.ensures.i_lt_count c.if-element-ne0.false).0 in
-    let a = c.network_number_with-number.ensures.accepted c.if-number-ne0.false in
-    let s = c.args in
-    let o = sym c.flows_and_powers-sizes.ensures ∙ own_sizes _ _ _ c.network_number_with-number.ensures.value c.if-number-ne0.false in rw c.counts-c.ensures a.wired
-
-pub evaluate_at-requires-clause-termed : goal.evaluate_at-requires-clause-termed
-evaluate_at-requires-clause-termed c = let l = (c.element_number-element.ensures.i_lt_count c.if-element-ne0.false).0 in
-    let a = c.network_number_with-number.ensures.accepted c.if-number-ne0.false in
-    let s = c.args in
-    let o = sym c.flows_and_powers-sizes.ensures ∙ own_sizes _ _ _ c.network_number_with-number.ensures.value c.if-number-ne0.false in rw c.counts-c.ensures a.termed
-
-pub evaluate_at-requires-clause-q_lt_rows : goal.evaluate_at-requires-clause-q_lt_rows
-evaluate_at-requires-clause-q_lt_rows c = let l = (c.element_number-element.ensures.i_lt_count c.if-element-ne0.false).0 in
-    let a = c.network_number_with-number.ensures.accepted c.if-number-ne0.false in
-    let s = c.args in
-    let o = sym c.flows_and_powers-sizes.ensures ∙ own_sizes _ _ _ c.network_number_with-number.ensures.value c.if-number-ne0.false in l
+pub returns-in_err-accept_element : goal.returns-in_err-accept_element
+returns-in_err-accept_element c = let e : c.from_residual-in_err-accept_element.result ≡ Err c.in_err-accept_element.field-0.0 = grind arith in
+    let s = c.in_ok-site.ensures in
+    rw e (element_stops _ _ _ _ _ _ _ (own_tests_lem _ c.flows_and_powers-sizes.ensures c.both_within-values.ensures s.number) refl (rw s.accepted.counts at c.in_err-accept_element.ensures.number) (refused c.in_err-accept_element.field-0.0))
 
 pub evaluate_at-requires-clause-f_len : goal.evaluate_at-requires-clause-f_len
-evaluate_at-requires-clause-f_len c = let l = (c.element_number-element.ensures.i_lt_count c.if-element-ne0.false).0 in
-    let a = c.network_number_with-number.ensures.accepted c.if-number-ne0.false in
-    let s = c.args in
-    let o = sym c.flows_and_powers-sizes.ensures ∙ own_sizes _ _ _ c.network_number_with-number.ensures.value c.if-number-ne0.false in rw c.counts-c.ensures (both_equal (length s.f.now) (get_or s.wiring.now 1 0) (length s.pg.now) (get_or s.wiring.now 2 0) o).0
+evaluate_at-requires-clause-f_len c = let s = c.in_ok-site.ensures in
+    let o = sym c.flows_and_powers-sizes.ensures ∙ own_sizes _ _ _ s.number refl in
+    rw s.accepted.counts (both_equal (length c.args.f.now) (get_or c.args.lent.wiring.now 1 0) (length c.args.pg.now) (get_or c.args.lent.wiring.now 2 0) o).0
 
 pub evaluate_at-requires-clause-pg_len : goal.evaluate_at-requires-clause-pg_len
-evaluate_at-requires-clause-pg_len c = let l = (c.element_number-element.ensures.i_lt_count c.if-element-ne0.false).0 in
-    let a = c.network_number_with-number.ensures.accepted c.if-number-ne0.false in
-    let s = c.args in
-    let o = sym c.flows_and_powers-sizes.ensures ∙ own_sizes _ _ _ c.network_number_with-number.ensures.value c.if-number-ne0.false in rw c.counts-c.ensures (both_equal (length s.f.now) (get_or s.wiring.now 1 0) (length s.pg.now) (get_or s.wiring.now 2 0) o).1
+evaluate_at-requires-clause-pg_len c = let s = c.in_ok-site.ensures in
+    let o = sym c.flows_and_powers-sizes.ensures ∙ own_sizes _ _ _ s.number refl in
+    rw s.accepted.counts (both_equal (length c.args.f.now) (get_or c.args.lent.wiring.now 1 0) (length c.args.pg.now) (get_or c.args.lent.wiring.now 2 0) o).1
 
 pub returns : goal.returns
-returns c = element_done _ _ _ _ _ _ c.args.out.now (own_tests_lem _ c.flows_and_powers-sizes.ensures c.both_within-values.ensures c.network_number_with-number.ensures.value) c.if-number-ne0.false (rw c.counts-c.ensures at c.element_number-element.ensures.value) c.if-element-ne0.false (c.element_number-element.ensures.i_lt_count c.if-element-ne0.false).1
-    (rw c.counts-c.ensures at c.evaluate_at.ensures)
+returns c = let s = c.in_ok-site.ensures in
+    let i = c.in_ok-accept_element.ensures in
+    element_done _ _ _ _ _ _ c.args.out.now (own_tests_lem _ c.flows_and_powers-sizes.ensures c.both_within-values.ensures s.number) refl (rw s.accepted.counts at i.number) refl i.accepted.1
+    (rw (s.accepted.counts, s.accepted.wiring, s.accepted.term_index, s.accepted.term_coefficient) at c.evaluate_at.ensures)

@@ -3,26 +3,8 @@ use native.Mathlib.Omega.{arith}
 use Rattle.sequence.proofs.Sheets.{lays_short, lays_twice, room_after}
 use Rattle.model.proofs.dc.lay_counted.Goals as goal
 
-pub put_susceptance-count-requires-clause-wired : goal.put_susceptance-count-requires-clause-wired
-put_susceptance-count-requires-clause-wired c = c.requires.wired
-
-pub put_susceptance-count-requires-clause-readings_laid : goal.put_susceptance-count-requires-clause-readings_laid
-put_susceptance-count-requires-clause-readings_laid c = c.requires.readings_laid
-
-pub put_susceptance-count-requires-clause-room : goal.put_susceptance-count-requires-clause-room
-put_susceptance-count-requires-clause-room c = record { in_rows = omega arith; in_cols = omega arith; in_values = omega arith; far = omega arith }
-
 pub returns-then-cap-count : goal.returns-then-cap-count
 returns-then-cap-count c = lays_short c.put_susceptance-count.ensures.puts c.requires.cap_value c.if-cap-count.true
-
-pub put_susceptance-done-requires-clause-wired : goal.put_susceptance-done-requires-clause-wired
-put_susceptance-done-requires-clause-wired c = c.requires.wired
-
-pub put_susceptance-done-requires-clause-readings_laid : goal.put_susceptance-done-requires-clause-readings_laid
-put_susceptance-done-requires-clause-readings_laid c = c.requires.readings_laid
-
-pub put_susceptance-done-requires-clause-room : goal.put_susceptance-done-requires-clause-room
-put_susceptance-done-requires-clause-room c = room_after c.put_susceptance-count.ensures.puts c.requires.cap_value c.if-cap-count.false
 
 pub returns : goal.returns
 returns c = lays_twice c.put_susceptance-count.ensures.puts c.put_susceptance-done.ensures.puts c.requires.cap_value c.if-cap-count.false

@@ -1,24 +1,21 @@
 -- `model::dc::phase_withdrawal` meets its contract: a law for each return. Assumes nothing.
-use mathlib.Core.Path.{ap}
+use mathlib.Core.Path.{◌≡◌, refl, ap}
+use native.Mathlib.Omega.{arith}
+use Rattle.std.specs.Prelude.{Err}
 use Rattle.network.specs.declared.Counts.{Counts}
-use Rattle.model.proofs.Calls.{bus_refused, bus_short, bus_done}
+use Rattle.sequence.proofs.Answers.{refused}
+use Rattle.model.proofs.Calls.{numbered, bus_refused, bus_short, bus_done}
 use Rattle.model.proofs.dc.phase_withdrawal.Goals as goal
 
-pub returns-then-number-ne0 : goal.returns-then-number-ne0
-returns-then-number-ne0 c = bus_refused _ _ _ c.network_number_with-number.ensures.value c.if-number-ne0.true
+pub returns-in_err-site : goal.returns-in_err-site
+returns-in_err-site c = let e : c.from_residual.result ≡ Err c.in_err-site.field-0.0 = grind arith in
+    rw e (bus_refused _ _ _ (numbered _ c.in_err-site.ensures.number) (refused c.in_err-site.field-0.0))
 
-pub returns-then-out-c : goal.returns-then-out-c
-returns-then-out-c c = bus_short _ _ _ c.network_number_with-number.ensures.value c.if-number-ne0.false (rw c.counts-c.ensures at c.if-out-c.true)
-
-pub phase_into-requires-clause-wired : goal.phase_into-requires-clause-wired
-phase_into-requires-clause-wired c = let a = c.network_number_with-number.ensures.accepted c.if-number-ne0.false in rw c.counts-c.ensures a.wired
-
-pub phase_into-requires-clause-readings_laid : goal.phase_into-requires-clause-readings_laid
-phase_into-requires-clause-readings_laid c = let a = c.network_number_with-number.ensures.accepted c.if-number-ne0.false in rw c.counts-c.ensures a.read
-
-pub phase_into-requires-clause-buses_in_bounds : goal.phase_into-requires-clause-buses_in_bounds
-phase_into-requires-clause-buses_in_bounds c = let a = c.network_number_with-number.ensures.accepted c.if-number-ne0.false in c.if-out-c.false
+pub returns-then-out-site : goal.returns-then-out-site
+returns-then-out-site c = let s = c.in_ok-site.ensures in
+    bus_short _ _ _ (numbered _ s.number) refl (rw s.accepted.counts at c.if-out-site.true)
 
 pub returns : goal.returns
-returns c = bus_done _ _ _ c.network_number_with-number.ensures.value c.if-number-ne0.false (rw c.counts-c.ensures at c.if-out-c.false) (ap (λ (k : Counts). k.buses) c.counts-c.ensures)
-    (rw c.counts-c.ensures at c.phase_into.ensures.out_after)
+returns c = let s = c.in_ok-site.ensures in
+    bus_done _ _ _ (numbered _ s.number) refl (rw s.accepted.counts at c.if-out-site.false) (ap (λ (k : Counts). k.buses) s.accepted.counts)
+    (rw (s.accepted.counts, s.accepted.wiring, s.accepted.readings) at c.phase_into.ensures.out_after)

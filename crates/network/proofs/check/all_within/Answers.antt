@@ -13,7 +13,7 @@ loop-i-init c = (omega arith, refl, sym (every_none _))
 
 pub loop-i-preserved : goal.loop-i-preserved
 loop-i-preserved c = let l = c.loop-i in
-    (omega arith, refl, every_turn _ l.i l.invariant.2 c.within.ensures c.both-ok.ensures)
+    (omega arith, refl, every_turn _ l.i l.invariant.2 c.within-ok.ensures refl)
 
 pub returns : goal.returns
 unfolding all_within

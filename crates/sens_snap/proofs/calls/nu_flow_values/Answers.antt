@@ -1,40 +1,27 @@
 -- `sens_snap::calls::nu_flow_values` meets its contract: a law for each return. Assumes nothing.
-use mathlib.Core.Path.{sym, ap, ◌∙◌}
+use mathlib.Core.Path.{◌≡◌, refl, sym, ap, ◌∙◌}
+use native.Mathlib.Omega.{arith}
+use Rattle.std.specs.Prelude.{Err}
+use Rattle.sequence.proofs.Answers.{refused}
 use Rattle.sequence.proofs.Lists.{made_length}
 use Rattle.network.specs.declared.Counts.{Counts}
+use Rattle.solution_check.proofs.Own.{site_sheet}
 use Rattle.sens_snap.proofs.Returns.{sheet_refused, sheet_short, sheet_done}
 use Rattle.sens_snap.proofs.calls.nu_flow_values.Goals as goal
 
-pub returns-then-number-ne0 : goal.returns-then-number-ne0
-returns-then-number-ne0 c = sheet_refused _ _ _ _ c.solution_number-number.ensures.value c.if-number-ne0.true
+pub returns-in_err-site : goal.returns-in_err-site
+returns-in_err-site c = let e : c.from_residual.result ≡ Err c.in_err-site.field-0.0 = grind arith in
+    rw e (sheet_refused _ _ _ _ c.in_err-site.ensures.number (refused c.in_err-site.field-0.0))
 
-pub returns-then-out-c : goal.returns-then-out-c
-returns-then-out-c c = sheet_short _ _ _ _ c.solution_number-number.ensures.value c.if-number-ne0.false (made_length _ _) (rw c.counts-c.ensures at c.if-out-c.true)
-
-pub piece_count-requires : goal.piece_count-requires
-piece_count-requires c = rw c.counts-c.ensures (c.solution_number-number.ensures.solved c.if-number-ne0.false).accepted.wired.laid
-
-pub nu_flow_into-requires-clause-wired : goal.nu_flow_into-requires-clause-wired
-nu_flow_into-requires-clause-wired c = let a = c.solution_number-number.ensures.solved c.if-number-ne0.false in
-    let e = c.counts-c.ensures in rw e a.accepted.wired
-
-pub nu_flow_into-requires-clause-readings_laid : goal.nu_flow_into-requires-clause-readings_laid
-nu_flow_into-requires-clause-readings_laid c = let a = c.solution_number-number.ensures.solved c.if-number-ne0.false in
-    let e = c.counts-c.ensures in rw e a.accepted.read
-
-pub nu_flow_into-requires-clause-termed : goal.nu_flow_into-requires-clause-termed
-nu_flow_into-requires-clause-termed c = let a = c.solution_number-number.ensures.solved c.if-number-ne0.false in
-    let e = c.counts-c.ensures in rw e a.accepted.termed
+pub returns-then-out-count : goal.returns-then-out-count
+returns-then-out-count c = let a = c.in_ok-site.ensures in
+    sheet_short _ _ _ _ a.number refl (made_length _ _ ∙ sym (ap (λ (k : Counts). k.branches) a.accepted.counts)) c.if-out-count.true
 
 pub nu_flow_into-requires-clause-sheet_laid : goal.nu_flow_into-requires-clause-sheet_laid
-nu_flow_into-requires-clause-sheet_laid c = let a = c.solution_number-number.ensures.solved c.if-number-ne0.false in
-    let e = c.counts-c.ensures in rw (c.piece_count.ensures.0, e) a.laid
-
-pub nu_flow_into-requires-clause-branches_in_bounds : goal.nu_flow_into-requires-clause-branches_in_bounds
-nu_flow_into-requires-clause-branches_in_bounds c = let a = c.solution_number-number.ensures.solved c.if-number-ne0.false in
-    let e = c.counts-c.ensures in c.if-out-c.false
+nu_flow_into-requires-clause-sheet_laid c = let a = c.in_ok-site.ensures in
+    site_sheet a.accepted a.solved c.piece_count-pieces.ensures.0
 
 pub returns : goal.returns
-returns c = let e = c.counts-c.ensures in
-    sheet_done _ _ _ _ c.solution_number-number.ensures.value c.if-number-ne0.false (made_length _ _ ∙ sym (ap (λ (k : Counts). k.branches) e)) c.if-out-c.false
-    (rw (c.piece_count.ensures.0, e) at c.nu_flow_into.ensures.out_after)
+returns c = let a = c.in_ok-site.ensures in
+    sheet_done _ _ _ _ a.number refl (made_length _ _ ∙ sym (ap (λ (k : Counts). k.branches) a.accepted.counts)) c.if-out-count.false
+    (rw (c.piece_count-pieces.ensures.0, a.accepted.counts, a.accepted.wiring, a.accepted.readings, a.accepted.term_index, a.accepted.term_coefficient) at c.nu_flow_into.ensures.out_after)

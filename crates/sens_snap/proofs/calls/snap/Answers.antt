@@ -1,40 +1,32 @@
 -- `sens_snap::calls::snap` meets its contract: a law for each return. Assumes nothing.
-use mathlib.Core.Path.{sym, ◌∙◌}
+use mathlib.Core.Path.{◌≡◌, refl, sym, ◌∙◌}
+use native.Mathlib.Omega.{arith}
+use Rattle.std.specs.Prelude.{Err}
+use Rattle.sequence.proofs.Answers.{refused}
 use Rattle.snapping.proofs.Words.{snap_long}
+use Rattle.solution_check.proofs.Own.{site_sheet}
 use Rattle.sens_snap.proofs.Returns.{sheet_refused, sheet_short, sheet_done}
 use Rattle.sens_snap.proofs.calls.snap.Goals as goal
 
-pub returns-then-number-ne0 : goal.returns-then-number-ne0
-returns-then-number-ne0 c = sheet_refused _ _ _ _ c.solution_number-number.ensures.value c.if-number-ne0.true
+pub returns-in_err-site : goal.returns-in_err-site
+returns-in_err-site c = let e : c.from_residual.result ≡ Err c.in_err-site.field-0.0 = grind arith in
+    rw e (sheet_refused _ _ _ _ c.in_err-site.ensures.number (refused c.in_err-site.field-0.0))
 
 pub returns-then-out-count : goal.returns-then-out-count
-returns-then-out-count c = let a = c.solution_number-number.ensures.solved c.if-number-ne0.false in
-    sheet_short _ _ _ _ c.solution_number-number.ensures.value c.if-number-ne0.false (snap_long _ _ _ _ _ a.accepted.wired ∙ sym a.laid.long) c.if-out-count.true
-
-pub piece_count-requires : goal.piece_count-requires
-piece_count-requires c = rw c.counts-c.ensures (c.solution_number-number.ensures.solved c.if-number-ne0.false).accepted.wired.laid
-
-pub snap_into-requires-clause-wired : goal.snap_into-requires-clause-wired
-snap_into-requires-clause-wired c = let a = c.solution_number-number.ensures.solved c.if-number-ne0.false in
-    let e = c.counts-c.ensures in
-    let p = c.piece_count.ensures.0 in rw e a.accepted.wired
-
-pub snap_into-requires-clause-readings_laid : goal.snap_into-requires-clause-readings_laid
-snap_into-requires-clause-readings_laid c = let a = c.solution_number-number.ensures.solved c.if-number-ne0.false in
-    let e = c.counts-c.ensures in
-    let p = c.piece_count.ensures.0 in rw e a.accepted.read
+returns-then-out-count c = let a = c.in_ok-site.ensures in
+    let d = rw a.accepted.counts at a.solved in
+    sheet_short _ _ _ _ a.number refl (snap_long _ _ _ _ _ d.accepted.wired ∙ sym d.laid.long) c.if-out-count.true
 
 pub snap_into-requires-clause-sheet_laid : goal.snap_into-requires-clause-sheet_laid
-snap_into-requires-clause-sheet_laid c = let a = c.solution_number-number.ensures.solved c.if-number-ne0.false in
-    let e = c.counts-c.ensures in
-    let p = c.piece_count.ensures.0 in rw (p, e) a.laid
+snap_into-requires-clause-sheet_laid c = let a = c.in_ok-site.ensures in
+    site_sheet a.accepted a.solved c.piece_count-pieces.ensures.0
 
 pub snap_into-requires-clause-p_value : goal.snap_into-requires-clause-p_value
-snap_into-requires-clause-p_value c = let a = c.solution_number-number.ensures.solved c.if-number-ne0.false in
-    let e = c.counts-c.ensures in
-    let p = c.piece_count.ensures.0 in (p, rw (p, e, ← a.laid.long) c.if-out-count.false)
+snap_into-requires-clause-p_value c = let a = c.in_ok-site.ensures in
+    let s = site_sheet a.accepted a.solved c.piece_count-pieces.ensures.0 in (c.piece_count-pieces.ensures.0, rw (← s.long) c.if-out-count.false)
 
 pub returns : goal.returns
-returns c = let a = c.solution_number-number.ensures.solved c.if-number-ne0.false in
-    sheet_done _ _ _ _ c.solution_number-number.ensures.value c.if-number-ne0.false (snap_long _ _ _ _ _ a.accepted.wired ∙ sym a.laid.long) c.if-out-count.false
-    (rw (c.piece_count.ensures.0, c.counts-c.ensures) at c.snap_into.ensures.out_after)
+returns c = let a = c.in_ok-site.ensures in
+    let d = rw a.accepted.counts at a.solved in
+    sheet_done _ _ _ _ a.number refl (snap_long _ _ _ _ _ d.accepted.wired ∙ sym d.laid.long) c.if-out-count.false
+    (rw (c.piece_count-pieces.ensures.0, a.accepted.counts, a.accepted.wiring, a.accepted.readings) at c.snap_into.ensures.out_after)

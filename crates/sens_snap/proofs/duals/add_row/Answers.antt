@@ -1,5 +1,5 @@
 -- `sens_snap::duals::add_row` meets its contract: at each branch, t terms have taken their turns. Assumes nothing.
-use Prim.Native.Nat.{◌+◌, ◌-◌, ◌<◌}
+use Prim.Native.Nat.{◌+◌, ◌<◌}
 use mathlib.Core.Path.{◌≡◌, refl, sym, ap, ◌∙◌}
 use native.Mathlib.Omega.{arith}
 use lib.ListN.{length, get_or, length-set}
@@ -11,27 +11,6 @@ use Rattle.snapping.specs.declared.LinearDuals.{LinearDuals}
 use Rattle.snapping.specs.Snap.{signed}
 use Rattle.sens_snap.proofs.Turns.{row_turns, turns_beyond}
 use Rattle.sens_snap.proofs.duals.add_row.Goals as goal
-
-pub word-count-requires-clause-wiring_laid : goal.word-count-requires-clause-wiring_laid
-word-count-requires-clause-wiring_laid c = c.requires.wired.laid
-
-pub word-count-requires-clause-i_bound : goal.word-count-requires-clause-i_bound
-word-count-requires-clause-i_bound c = c.requires.q_lt_rows.0
-
-pub snap_linear_at-d-requires-clause-wired : goal.snap_linear_at-d-requires-clause-wired
-snap_linear_at-d-requires-clause-wired c = c.requires.wired
-
-pub snap_linear_at-d-requires-clause-readings_laid : goal.snap_linear_at-d-requires-clause-readings_laid
-snap_linear_at-d-requires-clause-readings_laid c = c.requires.readings_laid
-
-pub snap_linear_at-d-requires-clause-termed : goal.snap_linear_at-d-requires-clause-termed
-snap_linear_at-d-requires-clause-termed c = c.requires.termed
-
-pub snap_linear_at-d-requires-clause-sheet_laid : goal.snap_linear_at-d-requires-clause-sheet_laid
-snap_linear_at-d-requires-clause-sheet_laid c = c.requires.sheet_laid
-
-pub snap_linear_at-d-requires-clause-q_lt_rows : goal.snap_linear_at-d-requires-clause-q_lt_rows
-snap_linear_at-d-requires-clause-q_lt_rows c = c.requires.q_lt_rows.0
 
 pub loop-t-init : goal.loop-t-init
 loop-t-init c = let e = c.requires.q_lt_rows in
@@ -62,9 +41,9 @@ pub returns-clause-by_index : goal.returns-clause-by_index
 returns-clause-by_index c = let l = c.loop-t in
     let e = c.requires.q_lt_rows in
     let w = c.word-count.ensures.0 in
-    let r = flow_run c.requires.wired c.requires.termed c.args.q e.0 e.1 w refl in
     let q : l.t ≡ c.word-count.result = omega arith in
-    let d = c.signed-dual.ensures ∙ ap (λ (d : LinearDuals). signed d) c.snap_linear_at-d.ensures in (λ i h. rw q at (l.invariant.0 i) ∙ row_turns _ _ _ _ _ _ _ i c.args.q _ e.1 w d)
+    let d = c.signed-dual.ensures ∙ ap (λ (d : LinearDuals). signed d) c.snap_linear_at-d.ensures in
+    (λ i h. rw q at (l.invariant.0 i) ∙ row_turns _ _ _ _ _ _ _ i c.args.q _ e.1 w d)
 
 pub returns-clause-by_index_2 : goal.returns-clause-by_index_2
 returns-clause-by_index_2 c = let l = c.loop-t in
@@ -72,12 +51,8 @@ returns-clause-by_index_2 c = let l = c.loop-t in
     let w = c.word-count.ensures.0 in
     let r = flow_run c.requires.wired c.requires.termed c.args.q e.0 e.1 w refl in
     let q : l.t ≡ c.word-count.result = omega arith in
-    let d = c.signed-dual.ensures ∙ ap (λ (d : LinearDuals). signed d) c.snap_linear_at-d.ensures in (λ i h. rw q at (l.invariant.0 i) ∙ turns_beyond c.args.term_index.now c.args.term_coefficient.now c.args.start c.signed-dual.result i _ _ _ h r.1.1)
+    (λ i h. rw q at (l.invariant.0 i) ∙ turns_beyond c.args.term_index.now c.args.term_coefficient.now c.args.start c.signed-dual.result i _ _ _ h r.1.1)
 
 pub returns-clause-out_len_unchanged : goal.returns-clause-out_len_unchanged
 returns-clause-out_len_unchanged c = let l = c.loop-t in
-    let e = c.requires.q_lt_rows in
-    let w = c.word-count.ensures.0 in
-    let r = flow_run c.requires.wired c.requires.termed c.args.q e.0 e.1 w refl in
-    let q : l.t ≡ c.word-count.result = omega arith in
-    let d = c.signed-dual.ensures ∙ ap (λ (d : LinearDuals). signed d) c.snap_linear_at-d.ensures in l.invariant.1
+    l.invariant.1

@@ -1,5 +1,4 @@
 -- `sens_snap::duals::bound_duals` meets its contract, branch by branch. Assumes nothing.
-use Prim.Native.Nat.{◌-◌}
 use mathlib.Core.Path.{◌≡◌, refl}
 use native.Mathlib.Omega.{arith}
 use Rattle.sequence.proofs.Fronts.{none, more}
@@ -7,12 +6,6 @@ use Rattle.sens_snap.proofs.duals.bound_duals.Goals as goal
 
 pub loop-e-init : goal.loop-e-init
 loop-e-init c = (none _ _, omega arith, refl)
-
-pub solved_at-requires-clause-sheet_laid : goal.solved_at-requires-clause-sheet_laid
-solved_at-requires-clause-sheet_laid c = c.requires.sheet_laid
-
-pub solved_at-requires-in-loop-e-clause-sheet_laid : goal.solved_at-requires-in-loop-e-clause-sheet_laid
-solved_at-requires-in-loop-e-clause-sheet_laid c = c.requires.sheet_laid
 
 pub loop-e-preserved : goal.loop-e-preserved
 loop-e-preserved c = let l = c.loop-e in

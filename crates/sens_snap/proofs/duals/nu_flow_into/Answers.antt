@@ -1,5 +1,4 @@
 -- `sens_snap::duals::nu_flow_into` meets its contract. At each branch, q rows have taken their turns. Assumes nothing.
-use Prim.Native.Nat.{◌-◌}
 use mathlib.Core.Path.{◌≡◌, refl, sym, ◌∙◌}
 use native.Mathlib.Omega.{arith}
 use lib.Ieee.{nan}
@@ -9,33 +8,12 @@ use Rattle.model.proofs.Runs.{terms_none, terms_more, terms_inside}
 use Rattle.snapping.specs.Snap.{nu_flow}
 use Rattle.sens_snap.proofs.duals.nu_flow_into.Goals as goal
 
-pub bound_duals-requires-clause-sheet_laid : goal.bound_duals-requires-clause-sheet_laid
-bound_duals-requires-clause-sheet_laid c = c.requires.sheet_laid
-
-pub bound_duals-requires-clause-branches_in_bounds : goal.bound_duals-requires-clause-branches_in_bounds
-bound_duals-requires-clause-branches_in_bounds c = c.requires.branches_in_bounds
-
 pub loop-q-init : goal.loop-q-init
 loop-q-init c = let p = c.bound_duals.ensures.out_after in
     ((λ e h. rw p (front_at _ _ _ e nan h ∙ turns_none _ _)), (λ e h. refl), refl, omega arith, refl, terms_none _ _)
 
-pub add_row-requires-clause-wired : goal.add_row-requires-clause-wired
-add_row-requires-clause-wired c = let i = c.loop-q.invariant in c.requires.wired
-
-pub add_row-requires-clause-readings_laid : goal.add_row-requires-clause-readings_laid
-add_row-requires-clause-readings_laid c = let i = c.loop-q.invariant in c.requires.readings_laid
-
-pub add_row-requires-clause-termed : goal.add_row-requires-clause-termed
-add_row-requires-clause-termed c = let i = c.loop-q.invariant in c.requires.termed
-
-pub add_row-requires-clause-sheet_laid : goal.add_row-requires-clause-sheet_laid
-add_row-requires-clause-sheet_laid c = let i = c.loop-q.invariant in c.requires.sheet_laid
-
 pub add_row-requires-clause-q_lt_rows : goal.add_row-requires-clause-q_lt_rows
 add_row-requires-clause-q_lt_rows c = let i = c.loop-q.invariant in (omega arith, i.5, omega (arith, i.2, c.bound_duals.ensures.out_len_unchanged, c.requires.branches_in_bounds))
-
-pub row_terms-start-requires-clause-wiring_laid : goal.row_terms-start-requires-clause-wiring_laid
-row_terms-start-requires-clause-wiring_laid c = c.requires.wired.laid
 
 pub overflow_add-start : goal.overflow_add-start
 overflow_add-start c = let l = c.loop-q in

@@ -1,24 +1,15 @@
 -- `sens_snap::sheet::put_generator_duals` meets its contract: a segment more each turn. Assumes nothing.
-use Prim.Native.Nat.{◌-◌}
 use mathlib.Core.Path.{◌≡◌}
 use native.Mathlib.Omega.{arith}
 use Rattle.model.proofs.Runs.{segments_inside}
 use Rattle.kkt_index.proofs.Segments.{segment_inside}
-use Rattle.snapping.specs.Snap.{segment_dual, segment_words}
+use Rattle.snapping.specs.Snap.{segment_words}
 use Rattle.sens_snap.proofs.Stores.{none, more}
 use Rattle.sens_snap.proofs.sheet.put_generator_duals.Goals as goal
 
 pub loop-t-init : goal.loop-t-init
 loop-t-init c = let e = c.requires.j_lt_generators in
     (none _ _ _, omega arith, omega (arith, segments_inside c.requires.wired c.args.j e.0, e, c.requires.readings_laid.few))
-
-pub segment_dual-requires-clause-readings_laid : goal.segment_dual-requires-clause-readings_laid
-segment_dual-requires-clause-readings_laid c = let e = c.requires.j_lt_generators in
-    let i = segment_inside c.requires.wired c.args.j c.loop-t.t e.0 (rw e.4 at c.loop-t-test.true) in c.requires.readings_laid
-
-pub segment_dual-requires-clause-sheet_laid : goal.segment_dual-requires-clause-sheet_laid
-segment_dual-requires-clause-sheet_laid c = let e = c.requires.j_lt_generators in
-    let i = segment_inside c.requires.wired c.args.j c.loop-t.t e.0 (rw e.4 at c.loop-t-test.true) in c.requires.sheet_laid
 
 pub segment_dual-requires-clause-j_lt_generators : goal.segment_dual-requires-clause-j_lt_generators
 segment_dual-requires-clause-j_lt_generators c = let e = c.requires.j_lt_generators in

@@ -1,7 +1,5 @@
 -- `sens_snap::sheet::put_segment_duals` meets its contract: a generator more each turn, its rank and its first segment carried along. Assumes nothing.
-use Prim.Native.Nat.{◌-◌}
 use mathlib.Core.Path.{◌≡◌, refl, sym, ◌∙◌}
-use native.Mathlib.Nat.{le_trans, le_of_lt}
 use native.Mathlib.Omega.{arith}
 use Rattle.sequence.proofs.Lists.{before_none}
 use Rattle.model.proofs.Runs.{segments_none}
@@ -9,31 +7,12 @@ use Rattle.solution.specs.Sheet.{piece_rank}
 use Rattle.solution.proofs.Entries.{piece_more}
 use Rattle.kkt_index.proofs.Segments.{start_more}
 use Rattle.snapping.proofs.Words.{segment_long}
-use Rattle.sens_snap.proofs.Steps.{next_fits, next_less}
 use Rattle.sens_snap.proofs.Stores.{no_run, run_more}
 use Rattle.sens_snap.proofs.sheet.put_segment_duals.Goals as goal
 
 pub loop-j-init : goal.loop-j-init
 unfolding piece_rank
 loop-j-init c = (no_run _ _ _, omega arith, refl, omega (arith, c.requires.readings_laid.few), before_none _, omega arith, segments_none _ _, omega arith)
-
-pub word-count-requires-clause-wiring_laid : goal.word-count-requires-clause-wiring_laid
-word-count-requires-clause-wiring_laid c = c.requires.wired.laid
-
-pub put_generator_duals-requires-clause-wired : goal.put_generator_duals-requires-clause-wired
-put_generator_duals-requires-clause-wired c = let i = c.loop-j.invariant in
-    let w = c.word-count.ensures.0 in
-    let m = start_more c.requires.wired c.loop-j.j (omega arith) i.6 w in c.requires.wired
-
-pub put_generator_duals-requires-clause-readings_laid : goal.put_generator_duals-requires-clause-readings_laid
-put_generator_duals-requires-clause-readings_laid c = let i = c.loop-j.invariant in
-    let w = c.word-count.ensures.0 in
-    let m = start_more c.requires.wired c.loop-j.j (omega arith) i.6 w in c.requires.readings_laid
-
-pub put_generator_duals-requires-clause-sheet_laid : goal.put_generator_duals-requires-clause-sheet_laid
-put_generator_duals-requires-clause-sheet_laid c = let i = c.loop-j.invariant in
-    let w = c.word-count.ensures.0 in
-    let m = start_more c.requires.wired c.loop-j.j (omega arith) i.6 w in c.requires.sheet_laid
 
 pub put_generator_duals-requires-clause-j_lt_generators : goal.put_generator_duals-requires-clause-j_lt_generators
 put_generator_duals-requires-clause-j_lt_generators c = let i = c.loop-j.invariant in
@@ -64,7 +43,3 @@ returns c = let l = c.loop-j in
     let e : l.j ≡ c.args.c.generators = omega arith in
     let r = rw e at l.invariant.0 in
     r.is
-
--- left (argument 6 of 13): le_trans c.before.before.before.before.before.before.loop.invariant.5 (le_trans (le_of_lt c.before.before.before.before.before.loop-test.true) c.before.before.before.before.before.before.loop.invariant.3)
--- left (argument 8 of 13): next_fits c.before.before.before.before.before.before.loop-test.true (omega (arith, c.before.before.before.before.before.before.before.loop.invariant.3))
--- left (argument 9 of 13): next_less c.before.before.before.before.before.before.loop-test.true

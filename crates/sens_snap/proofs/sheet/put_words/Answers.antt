@@ -1,23 +1,13 @@
 -- `sens_snap::sheet::put_words` meets its contract: a word more each turn. Assumes nothing.
-use Prim.Native.Nat.{◌-◌}
 use mathlib.Core.Path.{◌≡◌}
 use native.Mathlib.Omega.{arith}
 use Rattle.solution.specs.Sheet.{size}
-use Rattle.snapping.specs.Snap.{snapped_at, plain_words}
+use Rattle.snapping.specs.Snap.{plain_words}
 use Rattle.sens_snap.proofs.Stores.{none, more}
 use Rattle.sens_snap.proofs.sheet.put_words.Goals as goal
 
 pub loop-i-init : goal.loop-i-init
 loop-i-init c = (none _ _ _, omega arith, c.entry_size-to.ensures)
-
-pub snapped_at-requires-clause-wired : goal.snapped_at-requires-clause-wired
-snapped_at-requires-clause-wired c = c.requires.wired
-
-pub snapped_at-requires-clause-readings_laid : goal.snapped_at-requires-clause-readings_laid
-snapped_at-requires-clause-readings_laid c = c.requires.readings_laid
-
-pub snapped_at-requires-clause-sheet_laid : goal.snapped_at-requires-clause-sheet_laid
-snapped_at-requires-clause-sheet_laid c = c.requires.sheet_laid
 
 pub loop-i-preserved : goal.loop-i-preserved
 loop-i-preserved c = let l = c.loop-i in (more _ l.invariant.0 c.snapped_at.ensures, omega arith, l.invariant.2)

@@ -1,5 +1,4 @@
 -- `sens_snap::sheet::snap_into` meets its contract: an entry more each turn, its place carried along. Assumes nothing.
-use Prim.Native.Nat.{◌-◌, ◌≤◌}
 use mathlib.Core.Path.{◌≡◌}
 use lib.ListN.{get_or}
 use Rattle.sequence.specs.Layout.{start}
@@ -9,8 +8,5 @@ use Rattle.snapping.specs.Snap.{entry_words}
 use Rattle.sens_snap.proofs.Stores.{Runs}
 use Rattle.sens_snap.proofs.sheet.snap_into.Given as goal
 
-abbrev pub invariant-loop-k : goal.invariant-loop-k
-invariant-loop-k l = Runs (λ k. entry_words l.c l.wiring l.p l.readings l.sheet (get_or entries k Va)) 0 l.k l.at l.initial.out l.out × (l.k ≤ 18) × (l.at ≡ start (sizes l.c l.p) l.k)
-
-abbrev pub decreases-loop-k : goal.decreases-loop-k
-decreases-loop-k l = 18 - l.k
+abbrev pub invariant-loop-e : goal.invariant-loop-e
+invariant-loop-e l = Runs (λ k. entry_words l.c l.wiring l.p l.readings l.sheet (get_or entries k Va)) 0 l.e-index l.at l.initial.out l.out × (l.at ≡ start (sizes l.c l.p) l.e-index)

@@ -1,2 +1,0 @@
--- The laws that the proofs of the exports cite. Assumes nothing.
-pub mod Answers

@@ -1,0 +1,2 @@
+-- The laws that proofs cite. Assumes nothing.
+pub mod Among

@@ -10,7 +10,7 @@ import re
 import sys
 
 FN = re.compile(
-    r'^( *)((?:#\[[^\n]*\]\n +)*)((?:pub )?(?:extern "C" )?)fn (\w+)(<[^>(]*>)?\(([^{]*?)\)( -> [^\n{]*)?'
+    r'^( *)((?:#\[[^\n]*\]\n +)*)((?:pub )?(?:extern "C" )?)fn (\w+)(<(?:[^<>]|<[^<>]*>|->)*>)?\(([^{]*?)\)( -> [^\n{]*)?'
     r'\n?((?: +(?:requires|ensures\*?)[^\n]*\n)*) *\{\n(.*?)^\1\}', re.M | re.S)
 
 
@@ -88,10 +88,13 @@ def point4():
 # Of each group the first bundle that a function takes whole counts.
 BUNDLES = [
     [['wiring: &', 'readings: &', 'term_index: &', 'term_coefficient: &'], ['wiring: &', 'readings: &', 'c: Counts'],
-     ['wiring: &', 'c: Counts'], ['readings: &', 'c: Counts']],
+     ['wiring: &', 'c: Counts'], ['readings: &', 'c: Counts'],
+     ['point: &OperatingPoint', 'term_index: &', 'term_coefficient: &'], ['kkt: &Kkt', 'term_index: &', 'term_coefficient: &']],
     [['sheet: &', 'c: Counts', 'p: usize'], ['solution: &', 'c: Counts', 'p: usize'], ['sheet: &', 'c: Counts', 'x: KktIdx']],
     [['rows: &mut', 'cols: &mut', 'values: &mut', 'limit: usize'], ['rows: &mut', 'cols: &mut', 'values: &mut']],
     [['sign: f64', 'counts: &[', 'rows: &[', 'weights: &[']],
+    [['idx: KktIdx', 'column: &mut']],
+    [['out: &mut [f64]', 'at: usize']],
 ]
 
 

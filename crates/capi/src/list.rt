@@ -12,6 +12,7 @@ use model::dc::susceptance_coo;
 use network::Lent;
 use sequence::Refusal;
 
+// The sheets stay single: the cells as the call takes them, the bytes as C lends them.
 fn susceptance_out(
     lent: Lent<'_>,
     r: &mut [u32],

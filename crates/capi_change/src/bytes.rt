@@ -15,6 +15,7 @@ use sequence::Refusal;
 use words::encode_doubles;
 
 // A decoded change, and what it leaves back into bytes.
+// The slices stay single: the cells as `change` takes them, the bytes as C lends them.
 fn change_out(
     wiring: &[u32],
     readings: &mut [f64],

@@ -14,8 +14,8 @@ ghost use Rattle.capi_problem.specs.Cells.{ProgramCells, ListFits, SidesFit};
 use crate::Sides;
 use decoding::Arrays;
 use decoding::answer::{list_room, listed};
-use network::Lent;
 use network::layout::counts;
+use network::{Lent, Plan};
 use opf_layout::{OpfLayout, active_of};
 use opf_problem::{Written, assemble_opf};
 use opf_sides::cone_count;
@@ -69,7 +69,12 @@ fn side_lengths(wiring: &[u32], readings: &[f64]) -> Sides
     ensures { result ≡ sides_at (counts_of wiring.now) wiring.now readings.now }
 {
     let c = counts(wiring);
-    let lay = OpfLayout::dc(c, active_of(wiring, readings, c));
+    let plan = Plan {
+        counts: c,
+        wiring,
+        readings,
+    };
+    let lay = OpfLayout::dc(c, active_of(&plan));
     Sides {
         q: lay.nvar,
         b: lay.ncon,
@@ -78,6 +83,7 @@ fn side_lengths(wiring: &[u32], readings: &[f64]) -> Sides
 }
 
 // A's and P's triplets as bytes.
+// Here and below the sheets stay single: the cells as the call takes them, the bytes as C lends them, in its order.
 fn lists_back(
     written: Written,
     pr: &[u32],

@@ -1,4 +1,5 @@
-// `assemble_opf`: the program in nine sheets.
+// `assemble_opf`: the program in nine sheets. The two exports are alike but for their types: C lends numbers to
+// `problem_assemble_opf`, and bytes to `capi_assemble_opf`.
 ghost use Rattle.std.specs.Prelude.{◌≡◌};
 ghost use Rattle.network.specs.Numbers.{lent};
 ghost use Rattle.decoding.specs.Exports.{all_whole, decoded};

@@ -1,4 +1,5 @@
-// The calls that fill a sheet.
+// The calls that fill a sheet. The exports are alike but for the function that they call, since C calls each quantity
+// by a name of its own.
 ghost use Rattle.std.specs.Prelude.{◌≡◌, ◌&&◌};
 ghost use Rattle.std.specs.Float.{binary64};
 ghost use Rattle.std.specs.Float.Ieee.{of_bits};

@@ -38,6 +38,7 @@ pub extern "C" fn sens_kkt_triplets(
     pack(kkt_triplets(lent, solution, rows, cols, values))
 }
 
+// The sheets stay single: the cells as the call takes them, the bytes as C lends them.
 fn kkt_triplets_out(
     lent: Lent<'_>,
     solution: &[f64],

@@ -1,4 +1,5 @@
-// The KKT matrix as triplets in three sheets.
+// The KKT matrix as triplets in three sheets. The two exports are alike but for their types: C lends numbers to
+// `sens_kkt_triplets`, and bytes to `capi_kkt_triplets`.
 ghost use Rattle.std.specs.Prelude.{◌≡◌, ◌&&◌, []};
 ghost use Rattle.words.specs.Words.{words_of, doubles_of};
 ghost use Rattle.network.specs.Numbers.{lent};

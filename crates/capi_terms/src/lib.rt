@@ -32,6 +32,7 @@ fn take_terms(b: &[u8], into: &mut [Term]) -> Option<usize>
     ensures held { IfSome result (λ n. Held (terms_of b.now) n into.new) }
 {
     let count = count_within(b, 12, into.len())?;
+    // Each term is made of its index: twelve bytes stand at 12 i.
     for i in 0..count {
         into[i] = term_from(b, 12 * i);
     }

@@ -12,7 +12,7 @@ ghost use Rattle.job_book.specs.Book.{change, given, words, outcome_of, step, ma
 
 use job_book::{accept_change, value_of};
 use network::layout::field_start;
-use network::{Counts, Field, Lent};
+use network::{Counts, Field, Grid, Lent, Plan, Site};
 use sens_dc::lay_kkt;
 use sequence::Answer;
 use solution_check::accept_solution;
@@ -28,11 +28,12 @@ fn place_of(c: Counts, field: Field, index: usize) -> usize
 }
 
 // The change made and the list laid; where the list doesn't fit, the old value is put back.
-fn make(
-    wiring: &[u32],
-    readings: &mut [f64],
-    term_index: &[u32],
-    term_coefficient: &[f64],
+// Here and in `change` the slices stay single, as C lends them: the readings are written; a `Lent` is only read.
+fn make<'a>(
+    wiring: &'a [u32],
+    readings: &'a mut [f64],
+    term_index: &'a [u32],
+    term_coefficient: &'a [f64],
     solution: &[f64],
     c: Counts,
     rows: &mut [u32],
@@ -51,17 +52,17 @@ fn make(
 {
     let old = readings[at];
     readings[at] = value;
-    let answer = lay_kkt(
+    let plan = Plan {
+        counts: c,
         wiring,
         readings,
+    };
+    let site = Site {
+        grid: Grid { plan },
         term_index,
         term_coefficient,
-        solution,
-        c,
-        rows,
-        cols,
-        values,
-    );
+    };
+    let answer = lay_kkt(&site, solution, rows, cols, values);
     if answer.is_err() {
         readings[at] = old;
     }
@@ -92,7 +93,7 @@ pub fn change(
         term_index,
         term_coefficient,
     };
-    let c = accept_solution(lent, solution, false)?.counts;
+    let c = accept_solution(lent, solution, false)?.grid.plan.counts;
     let value = value_of(low, high);
     let (field, index) = accept_change(c, head, value)?;
     let at = place_of(c, field, index);

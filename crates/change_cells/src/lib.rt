@@ -4,13 +4,16 @@
 ghost use Rattle.std.specs.Prelude.{◌≡◌, ◌+◌, ◌<◌, ◌++◌, eqb};
 ghost use Rattle.network.specs.Layout.{size};
 ghost use Rattle.network.specs.declared.Field.TheVariants.{Sw, Susceptance};
-ghost use Rattle.network.specs.Numbers.{Wired};
 ghost use Rattle.kkt_index.specs.Index.{start_in, Narrow};
 ghost use Rattle.change_table.specs.Table.{cells_of, cells_at, among, diagonal, against, both_ways, balance_cells};
 
 use kkt_index::{Block, KktIdx};
 use network::layout::{wide, word};
-use network::{Counts, Field, Part};
+use network::{Field, Part};
+
+mod places;
+
+pub use places::Places;
 
 // A row or a column: an index of a block.
 type Place = (Block, usize);
@@ -44,145 +47,130 @@ fn is_among(x: KktIdx, cells: &[Cell], row: u32, col: u32) -> bool
         .any(|&(r, c)| stands_at(x, r, row) && stands_at(x, c, col))
 }
 
-// Row b+e against the angles of branch e's ends.
-fn against(wiring: &[u32], c: Counts, b: Block, e: usize) -> [Cell; 2]
-    requires wired { Wired c wiring.now }
-    requires e_lt_branches { e < c.branches }
-    ensures { result ≡ against c wiring.now b e }
-{
-    let from = word(wiring, c, Part::BrFrom, e);
-    let to = word(wiring, c, Part::BrTo, e);
-    [((b, e), (Block::Va, from)), ((b, e), (Block::Va, to))]
-}
+impl Places<'_> {
+    // Row b+e against the angles of branch e's ends.
+    fn against(&self, b: Block, e: usize) -> [Cell; 2]
+        requires { e < self.now.counts.branches }
+        ensures { result ≡ against self.now.counts self.now.wiring.now b e }
+    {
+        let from = word(self.wiring, self.counts, Part::BrFrom, e);
+        let to = word(self.wiring, self.counts, Part::BrTo, e);
+        [((b, e), (Block::Va, from)), ((b, e), (Block::Va, to))]
+    }
 
-// The same, and the angles' rows against column b+e.
-fn both_ways(wiring: &[u32], c: Counts, b: Block, e: usize) -> [Cell; 4]
-    requires wired { Wired c wiring.now }
-    requires e_lt_branches { e < c.branches }
-    ensures { result ≡ both_ways c wiring.now b e }
-{
-    let from = word(wiring, c, Part::BrFrom, e);
-    let to = word(wiring, c, Part::BrTo, e);
-    [
-        ((b, e), (Block::Va, from)),
-        ((b, e), (Block::Va, to)),
-        ((Block::Va, from), (b, e)),
-        ((Block::Va, to), (b, e)),
-    ]
-}
+    // The same, and the angles' rows against column b+e.
+    fn both_ways(&self, b: Block, e: usize) -> [Cell; 4]
+        requires { e < self.now.counts.branches }
+        ensures { result ≡ both_ways self.now.counts self.now.wiring.now b e }
+    {
+        let from = word(self.wiring, self.counts, Part::BrFrom, e);
+        let to = word(self.wiring, self.counts, Part::BrTo, e);
+        [
+            ((b, e), (Block::Va, from)),
+            ((b, e), (Block::Va, to)),
+            ((Block::Va, from), (b, e)),
+            ((Block::Va, to), (b, e)),
+        ]
+    }
 
-// The cells where the balances of branch e's ends meet their angles.
-fn balance_cells(wiring: &[u32], c: Counts, e: usize) -> [Cell; 8]
-    requires wired { Wired c wiring.now }
-    requires e_lt_branches { e < c.branches }
-    ensures { result ≡ balance_cells c wiring.now e }
-{
-    let from = word(wiring, c, Part::BrFrom, e);
-    let to = word(wiring, c, Part::BrTo, e);
-    [
-        ((Block::NuBal, from), (Block::Va, from)),
-        ((Block::NuBal, from), (Block::Va, to)),
-        ((Block::NuBal, to), (Block::Va, from)),
-        ((Block::NuBal, to), (Block::Va, to)),
-        ((Block::Va, from), (Block::NuBal, from)),
-        ((Block::Va, from), (Block::NuBal, to)),
-        ((Block::Va, to), (Block::NuBal, from)),
-        ((Block::Va, to), (Block::NuBal, to)),
-    ]
-}
+    // The cells where the balances of branch e's ends meet their angles.
+    fn balance_cells(&self, e: usize) -> [Cell; 8]
+        requires { e < self.now.counts.branches }
+        ensures { result ≡ balance_cells self.now.counts self.now.wiring.now e }
+    {
+        let from = word(self.wiring, self.counts, Part::BrFrom, e);
+        let to = word(self.wiring, self.counts, Part::BrTo, e);
+        [
+            ((Block::NuBal, from), (Block::Va, from)),
+            ((Block::NuBal, from), (Block::Va, to)),
+            ((Block::NuBal, to), (Block::Va, from)),
+            ((Block::NuBal, to), (Block::Va, to)),
+            ((Block::Va, from), (Block::NuBal, from)),
+            ((Block::Va, from), (Block::NuBal, to)),
+            ((Block::Va, to), (Block::NuBal, from)),
+            ((Block::Va, to), (Block::NuBal, to)),
+        ]
+    }
 
-// Whether a triplet is in a cell of a branch's susceptance.
-fn is_of_susceptance(wiring: &[u32], c: Counts, x: KktIdx, e: usize, row: u32, col: u32) -> bool
-    requires wired { Wired c wiring.now }
-    requires narrow { Narrow x }
-    requires e_lt_branches { e < c.branches }
-    ensures { result ≡ among (row, col) (cells_at (start_in x) (cells_of c wiring.now Susceptance e)) }
-{
-    is_among(x, &both_ways(wiring, c, Block::NuFlow, e), row, col)
-        || is_among(x, &balance_cells(wiring, c, e), row, col)
-}
+    // Whether a triplet is in a cell of a branch's susceptance.
+    fn is_of_susceptance(&self, e: usize, row: u32, col: u32) -> bool
+        requires { e < self.now.counts.branches }
+        ensures { result ≡ among (row, col) (cells_at (start_in self.now.index) (cells_of self.now.counts self.now.wiring.now Susceptance e)) }
+    {
+        is_among(self.index, &self.both_ways(Block::NuFlow, e), row, col)
+            || is_among(self.index, &self.balance_cells(e), row, col)
+    }
 
-// Whether a triplet is in a cell of a branch's switch.
-fn is_of_sw(wiring: &[u32], c: Counts, x: KktIdx, e: usize, row: u32, col: u32) -> bool
-    requires wired { Wired c wiring.now }
-    requires narrow { Narrow x }
-    requires e_lt_branches { e < c.branches }
-    ensures { result ≡ among (row, col) (cells_at (start_in x) (cells_of c wiring.now Sw e)) }
-{
-    is_among(x, &both_ways(wiring, c, Block::GammaLb, e), row, col)
-        || is_among(x, &both_ways(wiring, c, Block::GammaUb, e), row, col)
-        || is_among(x, &both_ways(wiring, c, Block::NuFlow, e), row, col)
-        || is_among(
-            x,
-            &[diagonal(Block::GammaLb, e), diagonal(Block::GammaUb, e)],
-            row,
-            col,
-        )
-        || is_among(x, &balance_cells(wiring, c, e), row, col)
-}
+    // Whether a triplet is in a cell of a branch's switch.
+    fn is_of_sw(&self, e: usize, row: u32, col: u32) -> bool
+        requires { e < self.now.counts.branches }
+        ensures { result ≡ among (row, col) (cells_at (start_in self.now.index) (cells_of self.now.counts self.now.wiring.now Sw e)) }
+    {
+        is_among(self.index, &self.both_ways(Block::GammaLb, e), row, col)
+            || is_among(self.index, &self.both_ways(Block::GammaUb, e), row, col)
+            || is_among(self.index, &self.both_ways(Block::NuFlow, e), row, col)
+            || is_among(
+                self.index,
+                &[diagonal(Block::GammaLb, e), diagonal(Block::GammaUb, e)],
+                row,
+                col,
+            )
+            || is_among(self.index, &self.balance_cells(e), row, col)
+    }
 
-// Whether a triplet is in a cell of an angle limit, whose dual is b+e.
-fn is_of_angle(wiring: &[u32], c: Counts, x: KktIdx, b: Block, e: usize, row: u32, col: u32) -> bool
-    requires wired { Wired c wiring.now }
-    requires narrow { Narrow x }
-    requires e_lt_branches { e < c.branches }
-    ensures { result ≡ among (row, col) (cells_at (start_in x) (against c wiring.now b e ++ diagonal b e)) }
-{
-    is_among(x, &against(wiring, c, b, e), row, col) || is_among(x, &[diagonal(b, e)], row, col)
-}
+    // Whether a triplet is in a cell of an angle limit, whose dual is b+e.
+    fn is_of_angle(&self, b: Block, e: usize, row: u32, col: u32) -> bool
+        requires { e < self.now.counts.branches }
+        ensures { result ≡ among (row, col) (cells_at (start_in self.now.index) (against self.now.counts self.now.wiring.now b e ++ diagonal b e)) }
+    {
+        is_among(self.index, &self.against(b, e), row, col)
+            || is_among(self.index, &[diagonal(b, e)], row, col)
+    }
 
-// Whether a triplet of this row and column is in a cell that a change of a reading may move.
-pub fn is_named(
-    wiring: &[u32],
-    c: Counts,
-    x: KktIdx,
-    f: Field,
-    i: usize,
-    row: u32,
-    col: u32,
-) -> bool
-    requires wired { Wired c wiring.now }
-    requires narrow { Narrow x }
-    requires i_bound { i < size c f }
-    ensures { result ≡ among (row, col) (cells_at (start_in x) (cells_of c wiring.now f i)) }
-{
-    match f {
-        Field::Demand => is_among(
-            x,
-            &[
-                ((Block::MuLb, i), (Block::Psh, i)),
-                ((Block::MuUb, i), (Block::Psh, i)),
-                diagonal(Block::MuLb, i),
-                diagonal(Block::MuUb, i),
-            ],
-            row,
-            col,
-        ),
-        Field::Fmax => is_among(
-            x,
-            &[diagonal(Block::LamLb, i), diagonal(Block::LamUb, i)],
-            row,
-            col,
-        ),
-        Field::Sw => is_of_sw(wiring, c, x, i, row, col),
-        Field::Susceptance => is_of_susceptance(wiring, c, x, i, row, col),
-        Field::Angmin => is_of_angle(wiring, c, x, Block::GammaLb, i, row, col),
-        Field::Angmax => is_of_angle(wiring, c, x, Block::GammaUb, i, row, col),
-        Field::Cq => is_among(x, &[diagonal(Block::Pg, i)], row, col),
-        Field::Gmin => is_among(x, &[diagonal(Block::RhoLb, i)], row, col),
-        Field::Gmax => is_among(x, &[diagonal(Block::RhoUb, i)], row, col),
-        // No change sets the others.
-        Field::BaseMva
-        | Field::Shift
-        | Field::FlowOffset
-        | Field::Cl
-        | Field::Cc
-        | Field::CShed
-        | Field::ShuntConductance
-        | Field::HvdcInjection
-        | Field::Slopes
-        | Field::Intercepts
-        | Field::UpperMw
-        | Field::LowerMw => false,
+    // Whether a triplet of this row and column is in a cell that a change of a reading may move. The fields' arms are a
+    // table of places: nothing is compared with the field.
+    pub fn is_named(&self, f: Field, i: usize, row: u32, col: u32) -> bool
+        requires { i < size self.now.counts f }
+        ensures { result ≡ among (row, col) (cells_at (start_in self.now.index) (cells_of self.now.counts self.now.wiring.now f i)) }
+    {
+        match f {
+            Field::Demand => is_among(
+                self.index,
+                &[
+                    ((Block::MuLb, i), (Block::Psh, i)),
+                    ((Block::MuUb, i), (Block::Psh, i)),
+                    diagonal(Block::MuLb, i),
+                    diagonal(Block::MuUb, i),
+                ],
+                row,
+                col,
+            ),
+            Field::Fmax => is_among(
+                self.index,
+                &[diagonal(Block::LamLb, i), diagonal(Block::LamUb, i)],
+                row,
+                col,
+            ),
+            Field::Sw => self.is_of_sw(i, row, col),
+            Field::Susceptance => self.is_of_susceptance(i, row, col),
+            Field::Angmin => self.is_of_angle(Block::GammaLb, i, row, col),
+            Field::Angmax => self.is_of_angle(Block::GammaUb, i, row, col),
+            Field::Cq => is_among(self.index, &[diagonal(Block::Pg, i)], row, col),
+            Field::Gmin => is_among(self.index, &[diagonal(Block::RhoLb, i)], row, col),
+            Field::Gmax => is_among(self.index, &[diagonal(Block::RhoUb, i)], row, col),
+            // No change sets the others.
+            Field::BaseMva
+            | Field::Shift
+            | Field::FlowOffset
+            | Field::Cl
+            | Field::Cc
+            | Field::CShed
+            | Field::ShuntConductance
+            | Field::HvdcInjection
+            | Field::Slopes
+            | Field::Intercepts
+            | Field::UpperMw
+            | Field::LowerMw => false,
+        }
     }
 }

@@ -10,6 +10,7 @@ use sequence::{Answer, Refusal, count, number};
 
 // A list of changes, three words each, one after the other: each one's number and count go to the two
 // sheets. `Size` where the list is no whole number of changes, `Short` where a sheet has no word for each.
+// The slices stay single, as C lends them: the readings are written; a `Lent` is only read.
 pub fn run_changes(
     wiring: &[u32],
     readings: &mut [f64],

@@ -213,9 +213,6 @@ module _ (N : Network) (ok : Bool) (own : List ℕ) (sizes : Bool) where
 pub wholly_own : {ok : Bool} (own : List ℕ) (most : ℕ) → ok ≡ true → true ≡ fits 8 own most → ok && whole 8 own ≡ true
 wholly_own own most o e = rw (o, whole_of 8 own most (sym e))
 
-pub told_own : {A : Type 0} (g : Bool → Network → List Float → A) {b : Bool} {M N : Network} {F F' : List Float} → b ≡ true → M ≡ N → F ≡ F' → g true M F ≡ g b N F'
-told_own g e q r = rw (e, q, r)
-
 -- ---- a call with flows and powers of its own
 
 abbrev whole_with : Bool → List ℕ → List ℕ → Bool

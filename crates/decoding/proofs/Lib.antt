@@ -2,3 +2,4 @@
 pub mod Decoded
 pub mod Answered
 pub mod Listed
+pub mod Filled

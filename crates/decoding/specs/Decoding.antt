@@ -1,5 +1,6 @@
 -- What the decoding of byte slices into arrays leaves, and how much room a result has. Assumes nothing.
-use Rattle.std.specs.Prelude.{ℕ, ◌*◌, ◌/◌, ◌≤◌, min, ◌≡◌, Bool, true, false, ◌&&◌, List, length, take, leb, Option, IfSome, IfNone}
+use Rattle.std.specs.Prelude.{ℕ, ◌*◌, ◌/◌, ◌≤◌, min, ◌≡◌, Bool, true, false, ◌&&◌, List, length, take, replicate, leb, Option, IfSome, IfNone}
+use Rattle.float64.specs.Values.{nought}
 use Rattle.network.specs.Numbers.{Network, sizes_hold}
 use Rattle.decoding.specs.declared.Arrays.{Arrays}
 use Rattle.decoding.specs.declared.Lengths.{Lengths}
@@ -13,6 +14,10 @@ fits k b most = whole k b && leb (length b / k) most
 pub record Held {A : Type 0} (words : List A) (count : ℕ) (array : List A) : Type 0 where
   pub room : count ≤ length array
   pub front : take count array ≡ words
+
+-- arrays in which every word and double is zero
+unfoldable pub zeros : Arrays
+zeros = record { wiring = replicate 3033 0; readings = replicate 8065 nought; indexes = replicate 1024 0; coefficients = replicate 1024 nought }
 
 -- the network in front of four arrays
 abbrev pub cut : Lengths → Arrays → Network

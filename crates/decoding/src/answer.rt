@@ -38,6 +38,7 @@ pub fn list_room(most: usize, rows: usize, cols: usize, values: usize) -> usize
 }
 
 // The same for a list in three sheets.
+// The sheets stay single: the cells as the call took them, the bytes as C lends them.
 pub fn listed(
     answer: Answer,
     r: &[u32],

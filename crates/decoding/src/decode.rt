@@ -3,7 +3,7 @@ ghost use Rattle.std.specs.Prelude.{◌≡◌, ◌<◌, ◌≤◌, ◌/◌, leng
 ghost use Rattle.words.specs.Words.{words_of, doubles_of};
 ghost use Rattle.network.specs.Sites.{network_in};
 ghost use Rattle.decoding.specs.Exports.{decoded, all_whole};
-ghost use Rattle.decoding.specs.Decoding.{fits, Held, Holds, Read};
+ghost use Rattle.decoding.specs.Decoding.{fits, Held, zeros, Holds, Read};
 
 use crate::{Arrays, Lengths};
 use network::Lent;
@@ -22,7 +22,8 @@ pub fn count_within(b: &[u8], size: usize, most: usize) -> Option<usize>
     Some(count)
 }
 
-// The words of a slice, where it is whole and the array holds them.
+// The words of a slice, where it is whole and the array holds them. `take_doubles` is alike but for type and size: one
+// function for both would take those and the decoder as arguments, and is no plainer.
 pub fn take_words(b: &[u8], into: &mut [u32]) -> Option<usize>
     ensures fits { is_some result ≡ fits 4 b.now (length into.old) }
     ensures held { IfSome result (λ n. Held (words_of b.now) n into.new) }
@@ -43,7 +44,10 @@ pub fn take_doubles(b: &[u8], into: &mut [f64]) -> Option<usize>
 }
 
 impl Arrays {
-    pub fn new() -> Arrays {
+    // Arrays of zeros.
+    pub fn new() -> Arrays
+        ensures { result ≡ zeros }
+    {
         Arrays {
             wiring: [0; 3033],
             readings: [0.0; 8065],
@@ -54,6 +58,7 @@ impl Arrays {
 
     // The lengths of a network, which is then in front of the arrays. One that they do not hold has a ragged slice, or
     // sizes that do not hold.
+    // Here and in `read` the four slices stay single, as C lends them, in its order.
     pub fn fill(
         &mut self,
         wiring: &[u8],

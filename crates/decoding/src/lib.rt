@@ -4,6 +4,7 @@
 
 pub mod answer;
 pub mod decode;
+pub mod fill;
 
 // Arrays of the greatest lengths that a network's slices have.
 #[derive(Drop)]

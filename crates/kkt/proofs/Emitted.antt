@@ -14,9 +14,11 @@ use Rattle.std.specs.Prelude.{Option}
 use Rattle.sequence.specs.Lists.{each, when}
 use Rattle.sequence.specs.Links.{First}
 use Rattle.sequence.specs.declared.Triplet.{Triplet}
-use Rattle.sequence.specs.Sheets.{emit, Sheets, Puts}
+use Rattle.sequence.specs.declared.Sink.{Sink}
+use Rattle.sequence.specs.Sheets.{emit, Sheets}
+use Rattle.sequence.specs.Sinks.{Gains}
 use Rattle.sequence.proofs.Lists.{each_same}
-use Rattle.sequence.proofs.Sheets.{none, begin, more, done, then}
+use Rattle.sequence.proofs.Sinks.{none, begin, more, done, then}
 use Rattle.sequence.proofs.Links.{scan, walk_begin, walk_more}
 use Rattle.network.specs.declared.Field.{Field}
 use Rattle.solution.specs.declared.Entry.{Entry}
@@ -33,12 +35,12 @@ emits_append [] b = refl
 emits_append (t ∷ a) b = rw (emits_append a b, append_assoc)
 
 -- none of it put in yet, and one more
-pub all_begin : {l : ℕ} {S₀ : Sheets} → Puts l (emits []) S₀ S₀
+pub all_begin : {S₀ : Sink} → Gains (emits []) S₀ S₀
 unfolding emits
 all_begin = none
 
-pub all_more : {l : ℕ} {S₀ S₁ S₂ : Sheets} (ts : List (Option Triplet)) (i : ℕ) (d : Option Triplet) → i < length ts
-    → Puts l (emits (take i ts)) S₀ S₁ → Puts l (emit (get_or ts i d)) S₁ S₂ → Puts l (emits (take (i + 1) ts)) S₀ S₂
+pub all_more : {S₀ S₁ S₂ : Sink} (ts : List (Option Triplet)) (i : ℕ) (d : Option Triplet) → i < length ts
+    → Gains (emits (take i ts)) S₀ S₁ → Gains (emit (get_or ts i d)) S₁ S₂ → Gains (emits (take (i + 1) ts)) S₀ S₂
 unfolding emits
 all_more ts i d h p q = rw (add-one, take-suc ts i d h, emits_append, append-nil) (then p q)
 
@@ -78,45 +80,44 @@ module _ (start : Block → ℕ) (R : Field → ℕ → Float) (S : Entry → �
   three_is (a ∷ b ∷ c ∷ []) h = refl
   three_is (a ∷ b ∷ c ∷ d ∷ ss) h = absurd (omega arith)
 
-  module _ {l : ℕ} where
-    -- one list put in, then another
-    pub puts_then : (a b : List Slot) {S₀ S₁ S₂ : Sheets} → Puts l (out a) S₀ S₁ → Puts l (out b) S₁ S₂ → Puts l (out (a ++ b)) S₀ S₂
-    puts_then a b p q = rw (emitted_append a b) (then p q)
+  -- one list put in, then another
+  pub puts_then : (a b : List Slot) {S₀ S₁ S₂ : Sink} → Gains (out a) S₀ S₁ → Gains (out b) S₁ S₂ → Gains (out (a ++ b)) S₀ S₂
+  puts_then a b p q = rw (emitted_append a b) (then p q)
 
-    -- nothing yet, one turn more, and all turns of a loop
-    pub puts_begin : {S₀ : Sheets} (f : ℕ → List Slot) → Puts l (out (each 0 f)) S₀ S₀
-    puts_begin f = rw (emitted_each 0 f) (begin (λ i. out (f i)))
+  -- nothing yet, one turn more, and all turns of a loop
+  pub puts_begin : {S₀ : Sink} (f : ℕ → List Slot) → Gains (out (each 0 f)) S₀ S₀
+  puts_begin f = rw (emitted_each 0 f) (begin (λ i. out (f i)))
 
-    pub puts_more : {S₀ S₁ S₂ : Sheets} (f : ℕ → List Slot) (e : ℕ) → Puts l (out (each e f)) S₀ S₁ → Puts l (out (f e)) S₁ S₂ → Puts l (out (each (e + 1) f)) S₀ S₂
-    puts_more f e p q = rw (emitted_each (e + 1) f) (more (λ i. out (f i)) e (rw (emitted_each e f) at p) q)
+  pub puts_more : {S₀ S₁ S₂ : Sink} (f : ℕ → List Slot) (e : ℕ) → Gains (out (each e f)) S₀ S₁ → Gains (out (f e)) S₁ S₂ → Gains (out (each (e + 1) f)) S₀ S₂
+  puts_more f e p q = rw (emitted_each (e + 1) f) (more (λ i. out (f i)) e (rw (emitted_each e f) at p) q)
 
-    pub puts_done : {S₀ S₁ : Sheets} (f : ℕ → List Slot) {e m : ℕ} → e ≤ m → m ≤ e → Puts l (out (each e f)) S₀ S₁ → Puts l (out (each m f)) S₀ S₁
-    puts_done f {e} {m} g h p = rw (emitted_each m f) (done (λ i. out (f i)) g h (rw (emitted_each e f) at p))
+  pub puts_done : {S₀ S₁ : Sink} (f : ℕ → List Slot) {e m : ℕ} → e ≤ m → m ≤ e → Gains (out (each e f)) S₀ S₁ → Gains (out (each m f)) S₀ S₁
+  puts_done f {e} {m} g h p = rw (emitted_each m f) (done (λ i. out (f i)) g h (rw (emitted_each e f) at p))
 
-    -- a short column that was put is the column that the specification names
-    pub puts_three : {S₀ S₁ : Sheets} (ss : List Slot) {t : List (Option Triplet)} → length ss ≤ 3 → t ≡ triple (item_of start R S) ss → Puts l (emits t) S₀ S₁ → Puts l (out ss) S₀ S₁
-    puts_three ss h e p = rw (three_is ss h) at (rw e at p)
+  -- a short column that was put is the column that the specification names
+  pub puts_three : {S₀ S₁ : Sink} (ss : List Slot) {t : List (Option Triplet)} → length ss ≤ 3 → t ≡ triple (item_of start R S) ss → Gains (emits t) S₀ S₁ → Gains (out ss) S₀ S₁
+  puts_three ss h e p = rw (three_is ss h) at (rw e at p)
 
-    -- slots that were put, each by its value
-    pub puts_all : {S₀ S₁ : Sheets} (ss : List Slot) {t : List (Option Triplet)} → t ≡ map (item_of start R S) ss → Puts l (emits t) S₀ S₁ → Puts l (out ss) S₀ S₁
-    puts_all ss e p = rw (each_is ss) at (rw e at p)
+  -- slots that were put, each by its value
+  pub puts_all : {S₀ S₁ : Sink} (ss : List Slot) {t : List (Option Triplet)} → t ≡ map (item_of start R S) ss → Gains (emits t) S₀ S₁ → Gains (out ss) S₀ S₁
+  puts_all ss e p = rw (each_is ss) at (rw e at p)
 
-    -- one slot that was put
-    pub puts_one : {S₀ S₁ : Sheets} (s : Slot) → Puts l (emit (item_of start R S s)) S₀ S₁ → Puts l (out (s ∷ [])) S₀ S₁
-    unfolding emitted
-    puts_one s p = rw append-nil p
+  -- one slot that was put
+  pub puts_one : {S₀ S₁ : Sink} (s : Slot) → Gains (emit (item_of start R S s)) S₀ S₁ → Gains (out (s ∷ [])) S₀ S₁
+  unfolding emitted
+  puts_one s p = rw append-nil p
 
-    -- a walk along the chain of key j is the plain scan of every index: it begins at the head, goes on by next, and ends
-    module _ (key : ℕ → ℕ) (j : ℕ) (g : ℕ → List Slot) {S₀ : Sheets} where
-      pub chain_begin : {c z : ℕ} → First key c j 0 z → Puts l (scan key j (λ x. out (g x)) z) S₀ S₀
-      chain_begin f = walk_begin key j (λ x. out (g x)) f
+  -- a walk along the chain of key j is the plain scan of every index: it begins at the head, goes on by next, and ends
+  module _ (key : ℕ → ℕ) (j : ℕ) (g : ℕ → List Slot) {S₀ : Sink} where
+    pub chain_begin : {c z : ℕ} → First key c j 0 z → Gains (scan key j (λ x. out (g x)) z) S₀ S₀
+    chain_begin f = walk_begin key j (λ x. out (g x)) f
 
-      pub chain_more : {c x z : ℕ} {S₁ S₂ : Sheets} → key x ≡ j → First key c j (x + 1) z
-          → Puts l (scan key j (λ x. out (g x)) x) S₀ S₁ → Puts l (out (g x)) S₁ S₂ → Puts l (scan key j (λ x. out (g x)) z) S₀ S₂
-      chain_more e f p q = walk_more key j (λ x. out (g x)) e f p q
+    pub chain_more : {c x z : ℕ} {S₁ S₂ : Sink} → key x ≡ j → First key c j (x + 1) z
+        → Gains (scan key j (λ x. out (g x)) x) S₀ S₁ → Gains (out (g x)) S₁ S₂ → Gains (scan key j (λ x. out (g x)) z) S₀ S₂
+    chain_more e f p q = walk_more key j (λ x. out (g x)) e f p q
 
-      pub chain_done : {c x : ℕ} {S₁ : Sheets} → x ≤ c → c ≤ x → Puts l (scan key j (λ x. out (g x)) x) S₀ S₁
-          → Puts l (out (each c (λ x. when (eqb (key x) j) (g x)))) S₀ S₁
-      chain_done {c} h k p =
-          rw (emitted_each c (λ x. when (eqb (key x) j) (g x)), each_same c (λ x. out (when (eqb (key x) j) (g x))) (λ x. when (eqb (key x) j) (out (g x))) (λ x q. emitted_when (eqb (key x) j) (g x)))
-          (done (λ x. when (eqb (key x) j) (out (g x))) h k p)
+    pub chain_done : {c x : ℕ} {S₁ : Sink} → x ≤ c → c ≤ x → Gains (scan key j (λ x. out (g x)) x) S₀ S₁
+        → Gains (out (each c (λ x. when (eqb (key x) j) (g x)))) S₀ S₁
+    chain_done {c} h k p =
+        rw (emitted_each c (λ x. when (eqb (key x) j) (g x)), each_same c (λ x. out (when (eqb (key x) j) (g x))) (λ x. when (eqb (key x) j) (out (g x))) (λ x q. emitted_when (eqb (key x) j) (g x)))
+        (done (λ x. when (eqb (key x) j) (out (g x))) h k p)

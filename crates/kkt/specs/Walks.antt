@@ -1,5 +1,5 @@
--- What the loops that put the matrix keep: which slices are lent, and short columns as three triplets or none.
--- Main definitions: `Lent`, `triple`, `span_of`. Assumes nothing.
+-- What the loops that put the matrix keep: what slots emit at a frame, and short columns as three triplets or none.
+-- Main definitions: `emitted_at`, `triple`, `span_of`. Assumes nothing.
 use Rattle.std.specs.Prelude.{ℕ, ◌+◌, ◌%◌, ◌≡◌, Bool, true, false, cond, List, [], ◌∷◌, ◌++◌, get_or, eqb, Float, Option, None}
 use Rattle.std.specs.Float.{nan, binary64}
 use Rattle.std.specs.Float.Ieee.{neg, mul}
@@ -23,24 +23,20 @@ use Rattle.snapping.specs.Expr.Expr.{num, minus}
 use Rattle.snapping.specs.Snap.{upper_slack, lower_slack, upper_dual, lower_dual}
 use Rattle.kkt.specs.declared.Side.{Side}
 use Rattle.kkt.specs.declared.Side.TheVariants.{Above, Below, Level}
-use Rattle.kkt.specs.declared.Work.{Work}
-use Rattle.kkt.specs.declared.Work.TheVariants.{Angles, Dispatch, Short, Epigraph, SegmentDuals, Balances, Rows}
-use Rattle.kkt.specs.declared.Use.{Use}
-use Rattle.kkt.specs.declared.Use.TheVariants.{InDispatch, InEpigraph, InDuals}
-use Rattle.kkt.specs.Slots.{Slot, slot, balance, pg_own, pg_segment, cost_segment, segment_column, segments_of}
-use Rattle.kkt.specs.Matrix.{kept, item_of}
-
--- the slices are an accepted network's with its solution sheet, and the index is narrow
-pub record Lent (c : Counts) (w : List ℕ) (r s : List Float) (x : KktIdx) : Type 0 where
-  pub wired : Wired c w
-  pub read : ReadingsLaid c r
-  pub sheet : SheetLaid c x.pieces s
-  pub pieces_are : x.pieces ≡ pieces c w
-  pub narrow : Narrow x
+use Rattle.kkt.specs.Slots.{Slot, slot, balance}
+use Rattle.kkt.specs.declared.frame.Kkt.{Kkt}
+use Rattle.kkt.specs.Matrix.{kept, item_of, emitted}
 
 -- a slot as a triplet or none, by the index and the slices
 abbrev pub item_in : Counts → List Float → List Float → KktIdx → Slot → Option Triplet
 item_in c r s x = item_of (start_in x) (reading c r) (solved c x.pieces s)
+
+-- the same of what a frame is read from, and what its slots emit
+abbrev pub item_at : Kkt → Slot → Option Triplet
+item_at k = item_in k.grid.plan.counts k.grid.plan.readings.now k.sheet.now k.index
+
+abbrev pub emitted_at : Kkt → List Slot → List Triplet
+emitted_at k = emitted (start_in k.index) (reading k.grid.plan.counts k.grid.plan.readings.now) (solved k.grid.plan.counts k.index.pieces k.sheet.now)
 
 -- ---- up to three triplets by value
 
@@ -58,41 +54,29 @@ unfoldable pub emits : List (Option Triplet) → List Triplet
 emits [] = []
 emits (t ∷ ts) = emit t ++ emits ts
 
--- ---- which loop a block's columns are put by
+-- ---- the blocks whose columns have at most three entries each
 
-abbrev pub work_of : Block → Work
-work_of Va = Angles
-work_of Pg = Dispatch
-work_of Flow = Short
-work_of Psh = Short
-work_of Cost = Epigraph
-work_of LamLb = Short
-work_of LamUb = Short
-work_of GammaLb = Short
-work_of GammaUb = Short
-work_of RhoLb = Short
-work_of RhoUb = Short
-work_of MuLb = Short
-work_of MuUb = Short
-work_of Segments = SegmentDuals
-work_of Linear = Rows
-work_of NuBal = Balances
-work_of NuFlow = Short
-work_of Eta = Short
+abbrev pub is_short : Block → Bool
+is_short Va = false
+is_short Pg = false
+is_short Flow = true
+is_short Psh = true
+is_short Cost = false
+is_short LamLb = true
+is_short LamUb = true
+is_short GammaLb = true
+is_short GammaUb = true
+is_short RhoLb = true
+is_short RhoUb = true
+is_short MuLb = true
+is_short MuUb = true
+is_short Segments = false
+is_short Linear = false
+is_short NuBal = false
+is_short NuFlow = true
+is_short Eta = true
 
--- what a generator's turn puts in each of the three loops over the generators
-abbrev pub own_slots : Use → Counts → List ℕ → ℕ → List Slot
-own_slots InDispatch c w j = pg_own c w j
-own_slots InEpigraph c w j = []
-own_slots InDuals c w j = []
-
-abbrev pub segment_slots : Use → ℕ → ℕ → ℕ → List Slot
-segment_slots InDispatch = pg_segment
-segment_slots InEpigraph = cost_segment
-segment_slots InDuals = segment_column
-
-abbrev pub generator_slots : Use → Counts → List ℕ → ℕ → List Slot
-generator_slots u c w j = own_slots u c w j ++ segments_of c w (segment_slots u) j
+-- ---- what loops put
 
 -- the sign of end x of the branches: + at the from end, - at the to end
 abbrev pub sign_of : ℕ → Float

@@ -2,40 +2,54 @@
 #![tactic(auto)]
 
 ghost use Rattle.std.specs.Prelude.{◌≡◌, ◌+◌, ◌<◌, ◌≤◌};
-ghost use Rattle.sequence.specs.Sheets.{held, Puts, Room};
+ghost use Rattle.sequence.specs.Sinks.{Gains};
 ghost use Rattle.kkt_index.specs.Index.{Narrow, start_in};
 ghost use Rattle.kkt.specs.Matrix.{kept};
-ghost use Rattle.kkt.specs.Walks.{emits};
+ghost use Rattle.kkt.specs.Walks.{emits, row_times, column_times, slackens};
 
+pub mod frame;
+
+pub use frame::{Kkt, KktSite};
 use kkt_index::{Block, KktIdx};
-use sequence::{Triplet, put};
-
-// How a block's columns are put: by which loop.
-#[derive(Clone, Copy)]
-pub enum Work {
-    Angles,
-    Dispatch,
-    Short,
-    Epigraph,
-    SegmentDuals,
-    Balances,
-    Rows,
-}
-
-// Which of the three loops over the generators.
-#[derive(Clone, Copy)]
-pub enum Use {
-    InDispatch,
-    InEpigraph,
-    InDuals,
-}
+use sequence::{Sink, Triplet};
 
 // On which side a linear row binds: at its upper limit, at its lower, or at both as one.
+// It stays an enum: a kind of row, of which the matrix's definitions speak, and no choice of a step.
 #[derive(Clone, Copy)]
 pub enum Side {
     Above,
     Below,
     Level,
+}
+
+impl Side {
+    // What a side with a dual holds in its row against a term of a coefficient.
+    pub fn row_times(self, dual: f64, coefficient: f64) -> f64
+        ensures { result ≡ row_times self dual coefficient }
+    {
+        match self {
+            Side::Above => -dual * coefficient,
+            Side::Below => dual * coefficient,
+            Side::Level => coefficient,
+        }
+    }
+
+    // What it holds in its column.
+    pub fn column_times(self, coefficient: f64) -> f64
+        ensures { result ≡ column_times self coefficient }
+    {
+        match self {
+            Side::Above | Side::Level => coefficient,
+            Side::Below => -coefficient,
+        }
+    }
+
+    // Whether it has a slack: an equality has none.
+    pub fn slackens(self) -> bool
+        ensures { result ≡ slackens self }
+    {
+        matches!(self, Side::Above | Side::Below)
+    }
 }
 
 // A value at a place: none where it is zero.
@@ -63,22 +77,12 @@ pub fn entry(x: KktIdx, a: Block, i: usize, b: Block, j: usize, value: f64) -> O
 }
 
 // Triplets of a column, one after the other.
-pub fn put_all<const N: usize>(
-    rows: &mut [u32],
-    cols: &mut [u32],
-    values: &mut [f64],
-    limit: usize,
-    at: usize,
-    triplets: [Option<Triplet>; N],
-) -> usize
-    requires room { Room limit (held rows cols values at) }
-    requires at_bound { at + N ≤ 0x4000_0000 }
-    ensures puts { Puts limit (emits triplets.entry) (held rows.entry cols.entry values.entry at) (held rows.exit cols.exit values.exit result) }
-    ensures most { result ≤ at + N }
+pub fn put_all<const N: usize>(sink: &mut Sink<'_>, triplets: [Option<Triplet>; N])
+    requires { sink.old.count + N ≤ 0x4000_0000 }
+    ensures puts { Gains (emits triplets.entry) sink.old sink.new }
+    ensures most { sink.new.count ≤ sink.old.count + N }
 {
-    let mut k = at;
     for triplet in triplets {
-        k = put(rows, cols, values, limit, k, triplet);
+        sink.put(triplet);
     }
-    k
 }

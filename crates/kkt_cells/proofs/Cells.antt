@@ -17,9 +17,12 @@ use Rattle.std.specs.Prelude.{Some, None}
 use Rattle.float64.specs.Values.{nought}
 use Rattle.sequence.specs.Lists.{before, each, front}
 use Rattle.sequence.specs.declared.Triplet.{Triplet}
-use Rattle.sequence.specs.Sheets.{triplet, item, emit, rows_of, cols_of, values_of, Sheets, sheets, Puts, Room}
+use Rattle.sequence.specs.declared.Sink.{Sink}
+use Rattle.sequence.specs.Sheets.{triplet, item, emit, rows_of, cols_of, values_of, Sheets, sheets}
+use Rattle.sequence.specs.Sinks.{sheets_in, Gains}
 use Rattle.sequence.proofs.Lists.{each_same, each_add, each_more, stored_at}
-use Rattle.sequence.proofs.Sheets.{full, begin, more}
+use Rattle.sequence.proofs.Sheets.{full}
+use Rattle.sequence.proofs.Sinks.{begin, more}
 use Rattle.network.specs.declared.Counts.{Counts}
 use Rattle.network.specs.Layout.{reading, Few}
 use Rattle.solution.specs.declared.Entry.{Entry}
@@ -125,53 +128,53 @@ unfolding front
 front_at new old i d h = get_or-append new _ d i h
 
 module _ (c : Counts) (w : List ℕ) (r : List Float) where
-  module _ {B C B' C' : List ℕ} {X X' : List Float} {cap k : ℕ} (few : c.buses + 2 * c.branches ≤ cap) (fit : Room cap (sheets B C X 0)) where
+  module _ {s₀ s₁ : Sink} (few : c.buses + 2 * c.branches ≤ s₀.limit) (empty : s₀.count ≡ 0) where
     -- the first j buses' are put
-    filled : (j : ℕ) → j ≤ c.buses → Puts cap (each j (cells_of c w r)) (sheets B C X 0) (sheets B' C' X' k)
-        → sheets B' C' X' k ≡ sheets (front (rows_of (each j (cells_of c w r))) B) (front (cols_of (each j (cells_of c w r))) C) (front (values_of (each j (cells_of c w r))) X) (length (each j (cells_of c w r)))
+    filled : (j : ℕ) → j ≤ c.buses → Gains (each j (cells_of c w r)) s₀ s₁
+        → sheets_in s₁ ≡ sheets (front (rows_of (each j (cells_of c w r))) s₀.rows.now) (front (cols_of (each j (cells_of c w r))) s₀.cols.now) (front (values_of (each j (cells_of c w r))) s₀.values.now) (length (each j (cells_of c w r)))
     unfolding cell_start
-    filled j h p =
-        let l : length (each j (cells_of c w r)) ≤ cap = omega (arith, start_most c w r j h, start_all c w r) in
-        full p l (omega (arith, l, fit.in_rows)) (omega (arith, l, fit.in_cols)) (omega (arith, l, fit.in_values))
+    filled j h g =
+        let l : length (each j (cells_of c w r)) ≤ s₀.limit = omega (arith, start_most c w r j h, start_all c w r) in
+        full (rw empty at g.puts) l (omega (arith, l, s₀.room.in_rows)) (omega (arith, l, s₀.room.in_cols)) (omega (arith, l, s₀.room.in_values))
 
-    pub counted : (j : ℕ) → j ≤ c.buses → Puts cap (each j (cells_of c w r)) (sheets B C X 0) (sheets B' C' X' k) → k ≡ cell_start c w r j
+    pub counted : (j : ℕ) → j ≤ c.buses → Gains (each j (cells_of c w r)) s₀ s₁ → s₁.count ≡ cell_start c w r j
     unfolding cell_start
-    counted j h p = ap (λ (S : Sheets). S.at) (filled j h p)
+    counted j h g = ap (λ (S : Sheets). S.at) (filled j h g)
 
-    module _ (p : Puts cap (each c.buses (cells_of c w r)) (sheets B C X 0) (sheets B' C' X' k)) where
-      bus_there : (j t : ℕ) → j < c.buses → t < length (cells_of c w r j) → get_or B' (cell_start c w r j + t) 0 ≡ get_or (rows_of (cells_of c w r j)) t 0
+    module _ (g : Gains (each c.buses (cells_of c w r)) s₀ s₁) where
+      bus_there : (j t : ℕ) → j < c.buses → t < length (cells_of c w r j) → get_or s₁.rows.now (cell_start c w r j + t) 0 ≡ get_or (rows_of (cells_of c w r j)) t 0
       unfolding cell_start
       bus_there j t h l =
           let ts : List Triplet = each c.buses (cells_of c w r) in
           let i : ℕ = length (each j (cells_of c w r)) + t in
           let b : i < length ts = omega (arith, within (cells_of c w r) j c.buses h) in
-          ap (λ (S : Sheets). get_or S.rows i 0) (filled c.buses (omega arith) p)
-          ∙ front_at (rows_of ts) B i 0 (rw length-map b)
+          ap (λ (S : Sheets). get_or S.rows i 0) (filled c.buses (omega arith) g)
+          ∙ front_at (rows_of ts) s₀.rows.now i 0 (rw length-map b)
           ∙ get_or-map (λ (x : Triplet). x.row) ts i nothing_there
           ∙ ap (λ (x : Triplet). x.row) (part_at (cells_of c w r) nothing_there j t c.buses h l)
           ∙ sym (get_or-map (λ (x : Triplet). x.row) (cells_of c w r j) t nothing_there)
 
-      sum_there : (j t : ℕ) → j < c.buses → t < length (cells_of c w r j) → get_or X' (cell_start c w r j + t) nan ≡ get_or (values_of (cells_of c w r j)) t nan
+      sum_there : (j t : ℕ) → j < c.buses → t < length (cells_of c w r j) → get_or s₁.values.now (cell_start c w r j + t) nan ≡ get_or (values_of (cells_of c w r j)) t nan
       unfolding cell_start
       sum_there j t h l =
           let ts : List Triplet = each c.buses (cells_of c w r) in
           let i : ℕ = length (each j (cells_of c w r)) + t in
           let b : i < length ts = omega (arith, within (cells_of c w r) j c.buses h) in
-          ap (λ (S : Sheets). get_or S.values i nan) (filled c.buses (omega arith) p)
-          ∙ front_at (values_of ts) X i nan (rw length-map b)
+          ap (λ (S : Sheets). get_or S.values i nan) (filled c.buses (omega arith) g)
+          ∙ front_at (values_of ts) s₀.values.now i nan (rw length-map b)
           ∙ get_or-map (λ (x : Triplet). x.value) ts i nothing_there
           ∙ ap (λ (x : Triplet). x.value) (part_at (cells_of c w r) nothing_there j t c.buses h l)
           ∙ sym (get_or-map (λ (x : Triplet). x.value) (cells_of c w r j) t nothing_there)
 
-      pub kept_all : {starts : List ℕ} → Few c → ((j : ℕ) → j ≤ c.buses → get_or starts j 0 ≡ cell_start c w r j) → c.buses < length starts → Kept c w r starts B' X'
+      pub kept_all : {starts : List ℕ} → Few c → ((j : ℕ) → j ≤ c.buses → get_or starts j 0 ≡ cell_start c w r j) → c.buses < length starts → Kept c w r starts s₁.rows.now s₁.values.now
       kept_all m s f = record {
         starts_at = s;
         starts_fit = f;
         bus_at = bus_there;
         sum_at = sum_there;
         few = omega (arith, start_all c w r, m.buses, m.branches);
-        buses_fit = omega (arith, start_all c w r, p.rows_kept, fit.in_rows);
-        sums_fit = omega (arith, start_all c w r, p.values_kept, fit.in_values);
+        buses_fit = omega (arith, start_all c w r, g.puts.rows_kept, s₀.room.in_rows);
+        sums_fit = omega (arith, start_all c w r, g.puts.values_kept, s₀.room.in_values);
       }
 
 -- ---- where each bus's start
@@ -257,14 +260,14 @@ module _ (start : Block → ℕ) (c : Counts) (w : List ℕ) (r : List Float) (S
 abbrev pub replay : Bool → ℕ → ℕ → List ℕ → List Float → ℕ → ℕ → List Triplet
 replay less from col B X first d = emit (kept (from + get_or B (first + d) 0) col (taken less (get_or X (first + d) nan)))
 
-pub replay_begin : {limit : ℕ} {S₀ : Sheets} (less : Bool) (from col : ℕ) (B : List ℕ) (X : List Float) (first : ℕ) → Puts limit (each (first - first) (replay less from col B X first)) S₀ S₀
+pub replay_begin : {S₀ : Sink} (less : Bool) (from col : ℕ) (B : List ℕ) (X : List Float) (first : ℕ) → Gains (each (first - first) (replay less from col B X first)) S₀ S₀
 replay_begin less from col B X first =
     let z : first - first ≡ 0 = omega arith in
     rw z (begin (replay less from col B X first))
 
-pub replay_more : {limit : ℕ} {S₀ S₁ S₂ : Sheets} (less : Bool) (from col : ℕ) (B : List ℕ) (X : List Float) (first t : ℕ) → first ≤ t
-    → Puts limit (each (t - first) (replay less from col B X first)) S₀ S₁ → Puts limit (emit (kept (from + get_or B t 0) col (taken less (get_or X t nan)))) S₁ S₂
-    → Puts limit (each (t + 1 - first) (replay less from col B X first)) S₀ S₂
+pub replay_more : {S₀ S₁ S₂ : Sink} (less : Bool) (from col : ℕ) (B : List ℕ) (X : List Float) (first t : ℕ) → first ≤ t
+    → Gains (each (t - first) (replay less from col B X first)) S₀ S₁ → Gains (emit (kept (from + get_or B t 0) col (taken less (get_or X t nan)))) S₁ S₂
+    → Gains (each (t + 1 - first) (replay less from col B X first)) S₀ S₂
 replay_more less from col B X first t h p q =
     let z : t + 1 - first ≡ t - first + 1 = omega arith in
     let y : first + (t - first) ≡ t = omega arith in
@@ -328,18 +331,18 @@ module _ {c : Counts} {w : List ℕ} {r : List Float} {starts B : List ℕ} {X :
       rw z (each_same (length (cells_of c w r j)) _ _ (λ t l. rw (row_there t l, value_there t l)))
 
   -- all of them are the entries of the bus's column
-  replayed : {limit : ℕ} {S₀ S₁ : Sheets} (start : Block → ℕ) (S : Entry → ℕ → Float) (less : Bool) (from col t : ℕ)
+  replayed : {S₀ S₁ : Sink} (start : Block → ℕ) (S : Entry → ℕ → Float) (less : Bool) (from col t : ℕ)
       → from ≡ cond less (start NuBal) (start Va) → col ≡ cond less (start Va) (start NuBal) + j → t ≤ to → to ≤ t
-      → Puts limit (each (t - first) (replay less from col B X first)) S₀ S₁ → Puts limit (emitted start (reading c r) S (balance_slots less c w j)) S₀ S₁
+      → Gains (each (t - first) (replay less from col B X first)) S₀ S₁ → Gains (emitted start (reading c r) S (balance_slots less c w j)) S₀ S₁
   replayed start S less from col t efrom ecol p q s =
       let z : t ≡ to = omega arith in
       rw (replays less from col ∙ cells_again start c w r S j less from col ∙ entries start c w r S j less from col efrom ecol) at (rw z at s)
 
   -- negatively or as they are, from blocks that start at a and b
-  module _ {limit : ℕ} {S₀ S₁ : Sheets} (start : Block → ℕ) (S : Entry → ℕ → Float) (less : Bool) (from col t : ℕ) {a b : ℕ} (ea : a ≡ start Va) (eb : b ≡ start NuBal) (p : t ≤ to) (q : to ≤ t)
-      (s : Puts limit (each (t - first) (replay less from col B X first)) S₀ S₁) where
-    pub replayed_less : less ≡ true → from ≡ b → col ≡ a + j → Puts limit (emitted start (reading c r) S (balance_slots less c w j)) S₀ S₁
+  module _ {S₀ S₁ : Sink} (start : Block → ℕ) (S : Entry → ℕ → Float) (less : Bool) (from col t : ℕ) {a b : ℕ} (ea : a ≡ start Va) (eb : b ≡ start NuBal) (p : t ≤ to) (q : to ≤ t)
+      (s : Gains (each (t - first) (replay less from col B X first)) S₀ S₁) where
+    pub replayed_less : less ≡ true → from ≡ b → col ≡ a + j → Gains (emitted start (reading c r) S (balance_slots less c w j)) S₀ S₁
     replayed_less e f g = replayed start S less from col t (rw e (f ∙ eb)) (rw (e, ← ea) g) p q s
 
-    pub replayed_as_is : less ≡ false → from ≡ a → col ≡ b + j → Puts limit (emitted start (reading c r) S (balance_slots less c w j)) S₀ S₁
+    pub replayed_as_is : less ≡ false → from ≡ a → col ≡ b + j → Gains (emitted start (reading c r) S (balance_slots less c w j)) S₀ S₁
     replayed_as_is e f g = replayed start S less from col t (rw e (f ∙ ea)) (rw (e, ← eb) g) p q s

@@ -2,85 +2,51 @@
 #![tactic(auto)]
 
 ghost use Rattle.std.specs.Prelude.{◌≡◌, ◌+◌, ◌*◌, ◌<◌, ◌≤◌, length};
-ghost use Rattle.sequence.specs.Sheets.{held, Puts, Room};
-ghost use Rattle.network.specs.Layout.{ReadingsLaid, reading};
-ghost use Rattle.network.specs.Numbers.{Wired};
-ghost use Rattle.susceptance.specs.Incidence.{Chains};
-ghost use Rattle.kkt_index.specs.Index.{start_in};
-ghost use Rattle.solution.specs.Sheet.{solved};
-ghost use Rattle.kkt.specs.Matrix.{kept, emitted};
-ghost use Rattle.kkt.specs.Walks.{Lent, taken, balance_slots};
+ghost use Rattle.sequence.specs.Lists.{each};
+ghost use Rattle.sequence.specs.Sinks.{Gains};
+ghost use Rattle.kkt.specs.Matrix.{kept};
+ghost use Rattle.kkt.specs.Walks.{taken, balance_slots, emitted_at};
 ghost use Rattle.kkt_cells.specs.Cells.{cells_of, Kept};
 
-use kkt::kept;
-use kkt_index::{Block, KktIdx};
+use kkt::{Kkt, kept};
+use kkt_index::Block;
 use kkt_sums::{put_sums, taken};
-use network::Counts;
 use network::layout::wide;
-use sequence::{Triplet, put};
-use susceptance::make_row;
+use sequence::{Sink, Triplet};
+use susceptance::{Ends, make_row};
 
-// Bus j's sums that are not zero, into three sheets of `cap` words from a place on.
-fn keep_row(
-    wiring: &[u32],
-    readings: &[f64],
-    c: Counts,
-    head: &[u32],
-    next: &[u32],
-    j: usize,
-    acc: &mut [f64],
-    hit: &mut [u32],
-    buses: &mut [u32],
-    cols: &mut [u32],
-    sums: &mut [f64],
-    cap: usize,
-    at: usize,
-) -> usize
-    requires wired { Wired c wiring.now }
-    requires readings_laid { ReadingsLaid c readings.now }
-    requires chains { Chains c wiring.now head.now next.now }
-    requires buses_in_bounds { (c.buses ≤ length acc.old) × (16 + c.buses ≤ length hit.old) }
-    requires j_lt_buses { (j < c.buses) × (at < 0x800_0000) }
-    requires room { Room cap (held buses cols sums at) }
-    ensures puts { Puts cap (cells_of c wiring.now readings.now j) (held buses.entry cols.entry sums.entry at) (held buses.exit cols.exit sums.exit result) }
-    ensures most { result ≤ at + 256 }
+// Bus j's sums that are not zero, into a sink. Of its two calls only the first is susceptance's too.
+// Here and below `acc` and `hit` stay single: with a struct of two `&mut` each function would promise to keep the two.
+fn keep_row(ends: &Ends<'_>, j: usize, acc: &mut [f64], hit: &mut [u32], sink: &mut Sink<'_>)
+    requires buses_in_bounds { (ends.now.grid.plan.counts.buses ≤ length acc.old) × (16 + ends.now.grid.plan.counts.buses ≤ length hit.old) }
+    requires j_lt_buses { (j < ends.now.grid.plan.counts.buses) × (sink.old.count < 0x800_0000) }
+    ensures puts { Gains (cells_of ends.now.grid.plan.counts ends.now.grid.plan.wiring.now ends.now.grid.plan.readings.now j) sink.old sink.new }
+    ensures most { sink.new.count ≤ sink.old.count + 256 }
 {
-    make_row(wiring, readings, c, head, next, j, acc, hit);
-    put_sums(c.buses, acc, hit, j, buses, cols, sums, cap, at)
+    make_row(ends, j, acc, hit);
+    put_sums(ends.grid.plan.counts.buses, acc, hit, j, sink);
 }
 
 // Every bus's sums that are not zero: where each bus's start, the other buses, and the sums.
-// There are at most one for each bus and two for each branch, and `cap` words for them.
+// There are at most one for each bus and two for each branch, and the empty sink holds as many.
 pub fn keep_sums(
-    wiring: &[u32],
-    readings: &[f64],
-    c: Counts,
-    head: &[u32],
-    next: &[u32],
+    ends: &Ends<'_>,
     acc: &mut [f64],
     hit: &mut [u32],
     starts: &mut [u32],
-    buses: &mut [u32],
-    cols: &mut [u32],
-    sums: &mut [f64],
-    cap: usize,
+    sink: &mut Sink<'_>,
 )
-    requires wired { Wired c wiring.now }
-    requires readings_laid { ReadingsLaid c readings.now }
-    requires chains { Chains c wiring.now head.now next.now }
-    requires buses_in_bounds { (c.buses ≤ length acc.old) × (16 + c.buses ≤ length hit.old) }
-    requires buses_in_bounds_2 { (c.buses < length starts.old) × (c.buses + 2 * c.branches ≤ cap) }
-    requires room { Room cap (held buses cols sums 0) }
-    ensures { Kept c wiring.now readings.now starts.new buses.new sums.new }
+    requires buses_in_bounds { (ends.now.grid.plan.counts.buses ≤ length acc.old) × (16 + ends.now.grid.plan.counts.buses ≤ length hit.old) }
+    requires buses_in_bounds_2 { (ends.now.grid.plan.counts.buses < length starts.old) × (ends.now.grid.plan.counts.buses + 2 * ends.now.grid.plan.counts.branches ≤ sink.old.limit) }
+    requires empty { sink.old.count ≡ 0 }
+    ensures cells { Gains (each ends.now.grid.plan.counts.buses (cells_of ends.now.grid.plan.counts ends.now.grid.plan.wiring.now ends.now.grid.plan.readings.now)) sink.old sink.new }
+    ensures kept { Kept ends.now.grid.plan.counts ends.now.grid.plan.wiring.now ends.now.grid.plan.readings.now starts.new sink.new.rows.now sink.new.values.now }
 {
-    let n = c.buses;
-    let mut k = 0;
+    let n = ends.grid.plan.counts.buses;
     starts[0] = 0;
     for j in 0..n {
-        k = keep_row(
-            wiring, readings, c, head, next, j, acc, hit, buses, cols, sums, cap, k,
-        );
-        starts[j + 1] = k as u32;
+        keep_row(ends, j, acc, hit, sink);
+        starts[j + 1] = sink.count as u32;
     }
 }
 
@@ -94,32 +60,23 @@ fn cell_item(less: bool, from: usize, col: usize, i: usize, v: f64) -> Option<Tr
 
 // Bus j's kept sums as entries: in its va column, negatively, against the balances, or in its nu_bal
 // column against the angles.
+// `starts`, `buses`, `sums` stay single: a struct would hold the `Kkt`'s grid again, with a clause that both are one.
 pub fn put_kept(
-    wiring: &[u32],
-    readings: &[f64],
-    sheet: &[f64],
-    c: Counts,
-    x: KktIdx,
+    kkt: &Kkt<'_>,
     less: bool,
     starts: &[u32],
     buses: &[u32],
     sums: &[f64],
     j: usize,
-    rows: &mut [u32],
-    cols: &mut [u32],
-    values: &mut [f64],
-    limit: usize,
-    at: usize,
-) -> usize
-    requires lent { Lent c wiring.now readings.now sheet.now x }
-    requires kept { Kept c wiring.now readings.now starts.now buses.now sums.now }
-    requires j_lt_buses { (j < c.buses) × (at < 0x800_0000) }
-    requires room { Room limit (held rows cols values at) }
-    ensures puts { Puts limit (emitted (start_in x) (reading c readings.now) (solved c x.pieces sheet.now) (balance_slots less c wiring.now j)) (held rows.entry cols.entry values.entry at) (held rows.exit cols.exit values.exit result) }
-    ensures most { result ≤ at + 1280 }
+    sink: &mut Sink<'_>,
+)
+    requires kept { Kept kkt.now.grid.plan.counts kkt.now.grid.plan.wiring.now kkt.now.grid.plan.readings.now starts.now buses.now sums.now }
+    requires j_lt_buses { (j < kkt.now.grid.plan.counts.buses) × (sink.old.count < 0x800_0000) }
+    ensures puts { Gains (emitted_at kkt.now (balance_slots less kkt.now.grid.plan.counts kkt.now.grid.plan.wiring.now j)) sink.old sink.new }
+    ensures most { sink.new.count ≤ sink.old.count + 1280 }
 {
-    let va = x.start(Block::Va);
-    let nu_bal = x.start(Block::NuBal);
+    let va = kkt.index.start(Block::Va);
+    let nu_bal = kkt.index.start(Block::NuBal);
     let (from, col) = if less {
         (nu_bal, va + j)
     } else {
@@ -127,16 +84,7 @@ pub fn put_kept(
     };
     let first = wide(starts[j]);
     let to = wide(starts[j + 1]);
-    let mut k = at;
     for t in first..to {
-        k = put(
-            rows,
-            cols,
-            values,
-            limit,
-            k,
-            cell_item(less, from, col, wide(buses[t]), sums[t]),
-        );
+        sink.put(cell_item(less, from, col, wide(buses[t]), sums[t]));
     }
-    k
 }

@@ -5,26 +5,25 @@ ghost use Rattle.std.specs.Prelude.{◌≡◌, ℕ, ◌+◌, ◌*◌, ◌/◌, �
 ghost use Rattle.network.specs.declared.Part.TheVariants.{GenBus, References};
 ghost use Rattle.sequence.specs.Lists.{each};
 ghost use Rattle.sequence.specs.Links.{Links};
-ghost use Rattle.sequence.specs.Sheets.{held, Puts, Room};
-ghost use Rattle.network.specs.Layout.{WiringLaid, reading, wire, part_size};
+ghost use Rattle.sequence.specs.Sinks.{Gains};
+ghost use Rattle.network.specs.Layout.{WiringLaid, wire, part_size};
 ghost use Rattle.susceptance.specs.Incidence.{Chains};
 ghost use Rattle.kkt_index.specs.declared.Block.TheVariants.{NuBal, Psh};
-ghost use Rattle.kkt_index.specs.Index.{start_in};
-ghost use Rattle.solution.specs.Sheet.{solved};
 ghost use Rattle.snapping.specs.Expr.{less_unit};
 ghost use Rattle.kkt.specs.Slots.{slot, end_slots, incident, reference_slot};
-ghost use Rattle.kkt.specs.Matrix.{emitted};
-ghost use Rattle.kkt.specs.Walks.{Lent, item_in, generators_at, triple, sign_of, sign_at};
+ghost use Rattle.kkt.specs.Walks.{generators_at, triple, sign_of, sign_at, item_at, emitted_at};
 ghost use Rattle.kkt.specs.Slots.Rule.{first_place};
 
-use kkt::{entry, put_all};
-use kkt_index::{Block, KktIdx};
-use network::layout::{reading, wide, word};
+use kkt::{Kkt, entry, put_all};
+use kkt_index::Block;
+use network::layout::{wide, word};
 use network::{Counts, Field, Part};
-use sequence::{Triplet, push, put};
+use sequence::{Sink, Triplet, push};
 use snapping::{gamma_lb_of, gamma_ub_of};
+use solution::OperatingPoint;
 
 // The chains of a part whose words are buses, by bus.
+// It asks for the wiring alone (a plan asks for more, a `Wiring` would be made for it), and writes `head` and `next`.
 pub fn link_part(wiring: &[u32], c: Counts, p: Part, head: &mut [u32], next: &mut [u32])
     requires wiring_laid { WiringLaid c wiring.now }
     requires by_index { (i : ℕ) → i < part_size c p → wire c wiring.now p i < c.buses }
@@ -46,175 +45,81 @@ fn sign_at(e: usize) -> f64
 }
 
 // The entries of the branch of end `end`, which is at bus j.
-fn end_items(
-    wiring: &[u32],
-    readings: &[f64],
-    sheet: &[f64],
-    c: Counts,
-    x: KktIdx,
-    j: usize,
-    end: usize,
-) -> [Option<Triplet>; 3]
-    requires lent { Lent c wiring.now readings.now sheet.now x }
-    requires j_lt_buses { (j < c.buses) × (end < 2 * c.branches) }
-    ensures { result ≡ triple (item_in c readings.now sheet.now x) (end_slots c wiring.now j (sign_at end) (end / 2)) }
+fn end_items(kkt: &Kkt<'_>, j: usize, end: usize) -> [Option<Triplet>; 3]
+    requires { (j < kkt.now.grid.plan.counts.buses) × (end < 2 * kkt.now.grid.plan.counts.branches) }
+    ensures { result ≡ triple (item_at kkt.now) (end_slots kkt.now.grid.plan.counts kkt.now.grid.plan.wiring.now j (sign_at end) (end / 2)) }
 {
     let e = end / 2;
     let a = sign_at(end);
-    let sw = reading(readings, c, Field::Sw, e);
-    let lower = gamma_lb_of(wiring, readings, sheet, c, x.pieces, e);
-    let upper = gamma_ub_of(wiring, readings, sheet, c, x.pieces, e);
-    let b = reading(readings, c, Field::Susceptance, e);
+    let sw = kkt.grid.reading(Field::Sw, e);
+    let point = OperatingPoint {
+        grid: kkt.grid,
+        pieces: kkt.index.pieces,
+        sheet: kkt.sheet,
+    };
+    let lower = gamma_lb_of(&point, e);
+    let upper = gamma_ub_of(&point, e);
+    let b = kkt.grid.reading(Field::Susceptance, e);
     [
-        entry(x, Block::GammaLb, e, Block::Va, j, lower * sw * a),
-        entry(x, Block::GammaUb, e, Block::Va, j, -upper * sw * a),
-        entry(x, Block::NuFlow, e, Block::Va, j, b * sw * a),
+        entry(kkt.index, Block::GammaLb, e, Block::Va, j, lower * sw * a),
+        entry(kkt.index, Block::GammaUb, e, Block::Va, j, -upper * sw * a),
+        entry(kkt.index, Block::NuFlow, e, Block::Va, j, b * sw * a),
     ]
 }
 
 // The branches at bus j, along its chain.
-pub fn put_ends(
-    wiring: &[u32],
-    readings: &[f64],
-    sheet: &[f64],
-    c: Counts,
-    x: KktIdx,
-    head: &[u32],
-    next: &[u32],
-    j: usize,
-    rows: &mut [u32],
-    cols: &mut [u32],
-    values: &mut [f64],
-    limit: usize,
-    at: usize,
-) -> usize
-    requires lent { Lent c wiring.now readings.now sheet.now x }
-    requires chains { Chains c wiring.now head.now next.now }
-    requires j_lt_buses { (j < c.buses) × (at < 0x800_0000) }
-    requires room { Room limit (held rows cols values at) }
-    ensures puts { Puts limit (emitted (start_in x) (reading c readings.now) (solved c x.pieces sheet.now) (each c.branches (incident c wiring.now j))) (held rows.entry cols.entry values.entry at) (held rows.exit cols.exit values.exit result) }
-    ensures most { result ≤ at + 3072 }
+// Chains stay two slices here and below: a struct would hold the `Kkt`'s grid again, with a clause that both are one.
+pub fn put_ends(kkt: &Kkt<'_>, head: &[u32], next: &[u32], j: usize, sink: &mut Sink<'_>)
+    requires chains { Chains kkt.now.grid.plan.counts kkt.now.grid.plan.wiring.now head.now next.now }
+    requires j_lt_buses { (j < kkt.now.grid.plan.counts.buses) × (sink.old.count < 0x800_0000) }
+    ensures puts { Gains (emitted_at kkt.now (each kkt.now.grid.plan.counts.branches (incident kkt.now.grid.plan.counts kkt.now.grid.plan.wiring.now j))) sink.old sink.new }
+    ensures most { sink.new.count ≤ sink.old.count + 3072 }
 {
-    let to = 2 * c.branches;
-    let mut k = at;
+    let to = 2 * kkt.grid.plan.counts.branches;
     let mut end = wide(head[j]);
     while end < to {
-        k = put_all(
-            rows,
-            cols,
-            values,
-            limit,
-            k,
-            end_items(wiring, readings, sheet, c, x, j, end),
-        );
+        put_all(sink, end_items(kkt, j, end));
         end = wide(next[end]);
     }
-    k
 }
 
 // Bus j's first place among the references, where it has one: its entry in the bus's own column.
-pub fn put_reference(
-    wiring: &[u32],
-    readings: &[f64],
-    sheet: &[f64],
-    c: Counts,
-    x: KktIdx,
-    first: &[u32],
-    later: &[u32],
-    j: usize,
-    rows: &mut [u32],
-    cols: &mut [u32],
-    values: &mut [f64],
-    limit: usize,
-    at: usize,
-) -> usize
-    requires lent { Lent c wiring.now readings.now sheet.now x }
-    requires links { Links (wire c wiring.now References) c.buses c.references 0 first.now later.now }
-    requires buses_in_bounds { (c.buses ≤ length first.now) × (j < c.buses) × (at < 0x1000_0000) }
-    requires room { Room limit (held rows cols values at) }
-    ensures puts { Puts limit (emitted (start_in x) (reading c readings.now) (solved c x.pieces sheet.now) (each c.references (reference_slot first_place c wiring.now j))) (held rows.entry cols.entry values.entry at) (held rows.exit cols.exit values.exit result) }
-    ensures most { result ≤ at + 1 }
+pub fn put_reference(kkt: &Kkt<'_>, first: &[u32], later: &[u32], j: usize, sink: &mut Sink<'_>)
+    requires links { Links (wire kkt.now.grid.plan.counts kkt.now.grid.plan.wiring.now References) kkt.now.grid.plan.counts.buses kkt.now.grid.plan.counts.references 0 first.now later.now }
+    requires buses_in_bounds { (kkt.now.grid.plan.counts.buses ≤ length first.now) × (j < kkt.now.grid.plan.counts.buses) × (sink.old.count < 0x1000_0000) }
+    ensures puts { Gains (emitted_at kkt.now (each kkt.now.grid.plan.counts.references (reference_slot first_place kkt.now.grid.plan.counts kkt.now.grid.plan.wiring.now j))) sink.old sink.new }
+    ensures most { sink.new.count ≤ sink.old.count + 1 }
 {
     let place = wide(first[j]);
-    if place >= c.references {
-        return at;
+    if place >= kkt.grid.plan.counts.references {
+        return;
     }
-    put(
-        rows,
-        cols,
-        values,
-        limit,
-        at,
-        entry(x, Block::Eta, place, Block::Va, j, 1.0),
-    )
+    sink.put(entry(kkt.index, Block::Eta, place, Block::Va, j, 1.0));
 }
 
 // The generators at bus i, along its chain, each with its entry in the bus's nu_bal column.
-fn put_bus_generators(
-    wiring: &[u32],
-    readings: &[f64],
-    sheet: &[f64],
-    c: Counts,
-    x: KktIdx,
-    head: &[u32],
-    next: &[u32],
-    i: usize,
-    rows: &mut [u32],
-    cols: &mut [u32],
-    values: &mut [f64],
-    limit: usize,
-    at: usize,
-) -> usize
-    requires lent { Lent c wiring.now readings.now sheet.now x }
-    requires links { Links (wire c wiring.now GenBus) c.buses c.generators 0 head.now next.now }
-    requires buses_in_bounds { (c.buses ≤ length head.now) × (c.generators ≤ length next.now) × (i < c.buses) × (at < 0x1000_0000) }
-    requires room { Room limit (held rows cols values at) }
-    ensures puts { Puts limit (emitted (start_in x) (reading c readings.now) (solved c x.pieces sheet.now) (each c.generators (generators_at c wiring.now i))) (held rows.entry cols.entry values.entry at) (held rows.exit cols.exit values.exit result) }
-    ensures most { result ≤ at + 256 }
+fn put_bus_generators(kkt: &Kkt<'_>, head: &[u32], next: &[u32], i: usize, sink: &mut Sink<'_>)
+    requires links { Links (wire kkt.now.grid.plan.counts kkt.now.grid.plan.wiring.now GenBus) kkt.now.grid.plan.counts.buses kkt.now.grid.plan.counts.generators 0 head.now next.now }
+    requires buses_in_bounds { (kkt.now.grid.plan.counts.buses ≤ length head.now) × (kkt.now.grid.plan.counts.generators ≤ length next.now) × (i < kkt.now.grid.plan.counts.buses) × (sink.old.count < 0x1000_0000) }
+    ensures puts { Gains (emitted_at kkt.now (each kkt.now.grid.plan.counts.generators (generators_at kkt.now.grid.plan.counts kkt.now.grid.plan.wiring.now i))) sink.old sink.new }
+    ensures most { sink.new.count ≤ sink.old.count + 256 }
 {
-    let to = c.generators;
-    let mut k = at;
+    let to = kkt.grid.plan.counts.generators;
     let mut j = wide(head[i]);
     while j < to {
-        k = put(
-            rows,
-            cols,
-            values,
-            limit,
-            k,
-            entry(x, Block::Pg, j, Block::NuBal, i, -1.0),
-        );
+        sink.put(entry(kkt.index, Block::Pg, j, Block::NuBal, i, -1.0));
         j = wide(next[j]);
     }
-    k
 }
 
 // The rest of bus i's nu_bal column: its generators, and its shed.
-pub fn put_injections(
-    wiring: &[u32],
-    readings: &[f64],
-    sheet: &[f64],
-    c: Counts,
-    x: KktIdx,
-    head: &[u32],
-    next: &[u32],
-    i: usize,
-    rows: &mut [u32],
-    cols: &mut [u32],
-    values: &mut [f64],
-    limit: usize,
-    at: usize,
-) -> usize
-    requires lent { Lent c wiring.now readings.now sheet.now x }
-    requires links { Links (wire c wiring.now GenBus) c.buses c.generators 0 head.now next.now }
-    requires buses_in_bounds { (c.buses ≤ length head.now) × (c.generators ≤ length next.now) × (i < c.buses) × (at < 0x1000_0000) }
-    requires room { Room limit (held rows cols values at) }
-    ensures puts { Puts limit (emitted (start_in x) (reading c readings.now) (solved c x.pieces sheet.now) (each c.generators (generators_at c wiring.now i) ++ slot (Psh, i) (NuBal, i) less_unit ∷ [])) (held rows.entry cols.entry values.entry at) (held rows.exit cols.exit values.exit result) }
-    ensures most { result ≤ at + 257 }
+pub fn put_injections(kkt: &Kkt<'_>, head: &[u32], next: &[u32], i: usize, sink: &mut Sink<'_>)
+    requires links { Links (wire kkt.now.grid.plan.counts kkt.now.grid.plan.wiring.now GenBus) kkt.now.grid.plan.counts.buses kkt.now.grid.plan.counts.generators 0 head.now next.now }
+    requires buses_in_bounds { (kkt.now.grid.plan.counts.buses ≤ length head.now) × (kkt.now.grid.plan.counts.generators ≤ length next.now) × (i < kkt.now.grid.plan.counts.buses) × (sink.old.count < 0x1000_0000) }
+    ensures puts { Gains (emitted_at kkt.now (each kkt.now.grid.plan.counts.generators (generators_at kkt.now.grid.plan.counts kkt.now.grid.plan.wiring.now i) ++ slot (Psh, i) (NuBal, i) less_unit ∷ [])) sink.old sink.new }
+    ensures most { sink.new.count ≤ sink.old.count + 257 }
 {
-    let shed = entry(x, Block::Psh, i, Block::NuBal, i, -1.0);
-    let k = put_bus_generators(
-        wiring, readings, sheet, c, x, head, next, i, rows, cols, values, limit, at,
-    );
-    put(rows, cols, values, limit, k, shed)
+    let shed = entry(kkt.index, Block::Psh, i, Block::NuBal, i, -1.0);
+    put_bus_generators(kkt, head, next, i, sink);
+    sink.put(shed);
 }

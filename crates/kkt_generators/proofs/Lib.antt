@@ -1,2 +1,2 @@
 -- Laws that several proofs of this crate cite. Assumes nothing.
-pub mod Segments
+pub mod Turns

@@ -1,200 +1,131 @@
 // Columns of the generators, of their epigraphs and of their segments' duals.
 #![tactic(auto)]
 
-ghost use Rattle.std.specs.Prelude.{◌≡◌, ◌+◌, ◌*◌, ◌<◌, ◌≤◌};
+ghost use Rattle.std.specs.Prelude.{◌≡◌, ℕ, ◌+◌, ◌*◌, ◌<◌, ◌≤◌, ◌++◌, [], ◌∷◌, map, None};
 ghost use Rattle.sequence.specs.Lists.{each};
-ghost use Rattle.sequence.specs.Sheets.{held, Puts, Room};
-ghost use Rattle.network.specs.Layout.{reading, segments_at, segment_start};
-ghost use Rattle.kkt_index.specs.Index.{start_in};
-ghost use Rattle.solution.specs.Sheet.{solved, piece_rank};
-ghost use Rattle.kkt.specs.Slots.{pg_own, segments_of};
-ghost use Rattle.kkt.specs.Matrix.{emitted};
-ghost use Rattle.kkt.specs.Walks.{Lent, item_in, triple, own_slots, segment_slots, generator_slots};
+ghost use Rattle.sequence.specs.Sinks.{Gains};
+ghost use Rattle.solution.specs.Sheet.{pieces, piece_rank};
+ghost use Rattle.kkt.specs.Slots.{pg_own, pg_segment, cost_segment, segment_column, segments_of};
+ghost use Rattle.kkt.specs.Walks.{emitted_at, item_at, triple};
+ghost use Rattle.kkt_generators.specs.Turns.{OwnIs, SegmentIs, turn};
 
-use kkt::{Use, entry, put_all};
-use kkt_index::{Block, KktIdx};
-use network::layout::{reading, word};
-use network::{Counts, Field, Part};
-use sequence::Triplet;
+use kkt::{Kkt, entry, put_all};
+use kkt_index::Block;
+use network::{Field, Grid, Part};
+use sequence::{Sink, Triplet};
 use snapping::{segment_dual, segment_slack};
-use solution::{Entry, next_piece, solved_at};
+use solution::{Entry, next_piece};
 
-// The entries of segment s of generator j, whose epigraph is of rank g.
-fn segment_items(
-    wiring: &[u32],
-    readings: &[f64],
-    sheet: &[f64],
-    c: Counts,
-    x: KktIdx,
-    u: Use,
-    j: usize,
-    g: usize,
-    s: usize,
-) -> [Option<Triplet>; 3]
-    requires lent { Lent c wiring.now readings.now sheet.now x }
-    requires j_lt_generators { (j < c.generators) × (g < x.pieces) × (s < c.segments) }
-    ensures { result ≡ triple (item_in c readings.now sheet.now x) (segment_slots u j g s) }
+// Every generator's turn of a loop: what generator j has of its own, then what each of its segments s has, whose
+// epigraph is of rank g.
+fn put_turns<
+    O: Fn(usize) -> [Option<Triplet>; 4],
+    S: Fn(usize, usize, usize) -> [Option<Triplet>; 3],
+>(grid: &Grid<'_>, own: O, of_segment: S, sink: &mut Sink<'_>)
+    requires own_callable { (j : ℕ) → j < grid.now.plan.counts.generators → O.pre own j }
+    requires segment_callable { (j s : ℕ) → j < grid.now.plan.counts.generators → s < grid.now.plan.counts.segments → piece_rank grid.now.plan.counts grid.now.plan.wiring.now j < pieces grid.now.plan.counts grid.now.plan.wiring.now → S.pre of_segment j (piece_rank grid.now.plan.counts grid.now.plan.wiring.now j) s }
+    requires at_bound { sink.old.count < 0x400_0000 }
+    ensures puts { (f : _) (g : _) → OwnIs (O.post own) f → SegmentIs (S.post of_segment) g → Gains (each grid.now.plan.counts.generators (turn grid.now.plan.counts grid.now.plan.wiring.now f g)) sink.old sink.new }
+    ensures most { sink.new.count ≤ sink.old.count + 0x1_0000 }
 {
-    let slope = reading(readings, c, Field::Slopes, s);
-    let dual = segment_dual(readings, sheet, c, x.pieces, j, g, s);
-    match u {
-        Use::InDispatch => [
-            entry(x, Block::Segments, s, Block::Pg, j, -dual * slope),
-            None,
-            None,
-        ],
-        Use::InEpigraph => [
-            entry(x, Block::Segments, s, Block::Cost, g, dual),
-            None,
-            None,
-        ],
-        Use::InDuals => {
-            let slack = segment_slack(readings, sheet, c, x.pieces, j, g, s);
-            [
-                entry(x, Block::Pg, j, Block::Segments, s, slope),
-                entry(x, Block::Cost, g, Block::Segments, s, -1.0),
-                entry(x, Block::Segments, s, Block::Segments, s, slack),
-            ]
-        }
-    }
-}
-
-// The segments of generator j, which are `count` from `start` on.
-fn put_segments(
-    wiring: &[u32],
-    readings: &[f64],
-    sheet: &[f64],
-    c: Counts,
-    x: KktIdx,
-    u: Use,
-    j: usize,
-    g: usize,
-    start: usize,
-    count: usize,
-    rows: &mut [u32],
-    cols: &mut [u32],
-    values: &mut [f64],
-    limit: usize,
-    at: usize,
-) -> usize
-    requires lent { Lent c wiring.now readings.now sheet.now x }
-    requires j_lt_generators { (j < c.generators) × (g ≡ piece_rank c wiring.now j) × (start ≡ segment_start c wiring.now j) × (count ≡ segments_at c wiring.now j) }
-    requires at_bound { at < 0x800_0000 }
-    requires room { Room limit (held rows cols values at) }
-    ensures puts { Puts limit (emitted (start_in x) (reading c readings.now) (solved c x.pieces sheet.now) (segments_of c wiring.now (segment_slots u) j)) (held rows.entry cols.entry values.entry at) (held rows.exit cols.exit values.exit result) }
-    ensures most { result ≤ at + 3 * count }
-{
-    let mut k = at;
-    for t in 0..count {
-        k = put_all(
-            rows,
-            cols,
-            values,
-            limit,
-            k,
-            segment_items(wiring, readings, sheet, c, x, u, j, g, start + t),
-        );
-    }
-    k
-}
-
-// Generator j's own entries in its pg column: objective Hessian, gen-bound stationarity, power balance.
-fn put_dispatch(
-    wiring: &[u32],
-    readings: &[f64],
-    sheet: &[f64],
-    c: Counts,
-    x: KktIdx,
-    j: usize,
-    rows: &mut [u32],
-    cols: &mut [u32],
-    values: &mut [f64],
-    limit: usize,
-    at: usize,
-) -> usize
-    requires lent { Lent c wiring.now readings.now sheet.now x }
-    requires j_lt_generators { (j < c.generators) × (at < 0x800_0000) }
-    requires room { Room limit (held rows cols values at) }
-    ensures puts { Puts limit (emitted (start_in x) (reading c readings.now) (solved c x.pieces sheet.now) (pg_own c wiring.now j)) (held rows.entry cols.entry values.entry at) (held rows.exit cols.exit values.exit result) }
-    ensures most { result ≤ at + 4 }
-{
-    let curvature = 2.0 * reading(readings, c, Field::Cq, j);
-    let lower = solved_at(sheet, c, x.pieces, Entry::RhoLb, j);
-    let upper = solved_at(sheet, c, x.pieces, Entry::RhoUb, j);
-    let bus = word(wiring, c, Part::GenBus, j);
-    let own = [
-        entry(x, Block::Pg, j, Block::Pg, j, curvature),
-        entry(x, Block::RhoLb, j, Block::Pg, j, lower),
-        entry(x, Block::RhoUb, j, Block::Pg, j, -upper),
-        entry(x, Block::NuBal, bus, Block::Pg, j, 1.0),
-    ];
-    put_all(rows, cols, values, limit, at, own)
-}
-
-// What generator j has of its own in a loop: in the dispatch's alone.
-fn put_own(
-    wiring: &[u32],
-    readings: &[f64],
-    sheet: &[f64],
-    c: Counts,
-    x: KktIdx,
-    u: Use,
-    j: usize,
-    rows: &mut [u32],
-    cols: &mut [u32],
-    values: &mut [f64],
-    limit: usize,
-    at: usize,
-) -> usize
-    requires lent { Lent c wiring.now readings.now sheet.now x }
-    requires j_lt_generators { (j < c.generators) × (at < 0x800_0000) }
-    requires room { Room limit (held rows cols values at) }
-    ensures puts { Puts limit (emitted (start_in x) (reading c readings.now) (solved c x.pieces sheet.now) (own_slots u c wiring.now j)) (held rows.entry cols.entry values.entry at) (held rows.exit cols.exit values.exit result) }
-    ensures most { result ≤ at + 4 }
-{
-    match u {
-        Use::InDispatch => put_dispatch(
-            wiring, readings, sheet, c, x, j, rows, cols, values, limit, at,
-        ),
-        Use::InEpigraph => at,
-        Use::InDuals => at,
-    }
-}
-
-// Every generator's turn of one of the three loops.
-pub fn put_generators(
-    wiring: &[u32],
-    readings: &[f64],
-    sheet: &[f64],
-    c: Counts,
-    x: KktIdx,
-    u: Use,
-    rows: &mut [u32],
-    cols: &mut [u32],
-    values: &mut [f64],
-    limit: usize,
-    at: usize,
-) -> usize
-    requires lent { Lent c wiring.now readings.now sheet.now x }
-    requires at_bound { at < 0x400_0000 }
-    requires room { Room limit (held rows cols values at) }
-    ensures puts { Puts limit (emitted (start_in x) (reading c readings.now) (solved c x.pieces sheet.now) (each c.generators (generator_slots u c wiring.now))) (held rows.entry cols.entry values.entry at) (held rows.exit cols.exit values.exit result) }
-    ensures most { result ≤ at + 0x1_0000 }
-{
-    let to = c.generators;
-    let mut k = at;
-    let mut g = 0;
+    let mut rank = 0;
     let mut start = 0;
-    for j in 0..to {
-        let count = word(wiring, c, Part::Segments, j);
-        k = put_own(
-            wiring, readings, sheet, c, x, u, j, rows, cols, values, limit, k,
-        );
-        k = put_segments(
-            wiring, readings, sheet, c, x, u, j, g, start, count, rows, cols, values, limit, k,
-        );
-        g = next_piece(g, count);
+    for j in 0..grid.plan.counts.generators {
+        let count = grid.word(Part::Segments, j);
+        put_all(sink, own(j));
+        for t in 0..count {
+            put_all(sink, of_segment(j, rank, start + t));
+        }
+        rank = next_piece(rank, count);
         start += count;
     }
-    k
+}
+
+// Every pg column: objective Hessian, gen-bound stationarity and power balance, then its segments' entries.
+pub fn put_dispatch(kkt: &Kkt<'_>, sink: &mut Sink<'_>)
+    requires { sink.old.count < 0x400_0000 }
+    ensures puts { Gains (emitted_at kkt.now (each kkt.now.grid.plan.counts.generators (λ j. pg_own kkt.now.grid.plan.counts kkt.now.grid.plan.wiring.now j ++ segments_of kkt.now.grid.plan.counts kkt.now.grid.plan.wiring.now pg_segment j))) sink.old sink.new }
+    ensures most { sink.new.count ≤ sink.old.count + 0x1_0000 }
+{
+    let own = |j: usize|
+        requires { j < kkt.now.grid.plan.counts.generators }
+        ensures { result ≡ map (item_at kkt.entry.now) (pg_own kkt.entry.now.grid.plan.counts kkt.entry.now.grid.plan.wiring.now j) }
+    {
+        let curvature = 2.0 * kkt.grid.reading(Field::Cq, j);
+        let lower = kkt.value(Entry::RhoLb, j);
+        let upper = kkt.value(Entry::RhoUb, j);
+        let bus = kkt.grid.word(Part::GenBus, j);
+        [
+            entry(kkt.index, Block::Pg, j, Block::Pg, j, curvature),
+            entry(kkt.index, Block::RhoLb, j, Block::Pg, j, lower),
+            entry(kkt.index, Block::RhoUb, j, Block::Pg, j, -upper),
+            entry(kkt.index, Block::NuBal, bus, Block::Pg, j, 1.0),
+        ]
+    };
+    let of_segment = |j: usize, g: usize, s: usize|
+        requires { (j < kkt.now.grid.plan.counts.generators) × (g < kkt.now.index.pieces) × (s < kkt.now.grid.plan.counts.segments) }
+        ensures { result ≡ triple (item_at kkt.entry.now) (pg_segment j g s) }
+    {
+        let slope = kkt.grid.reading(Field::Slopes, s);
+        let c = kkt.grid.plan.counts;
+        let readings = kkt.grid.plan.readings;
+        let dual = segment_dual(readings, kkt.sheet, c, kkt.index.pieces, j, g, s);
+        [
+            entry(kkt.index, Block::Segments, s, Block::Pg, j, -dual * slope),
+            None,
+            None,
+        ]
+    };
+    put_turns(&kkt.grid, own, of_segment, sink);
+}
+
+// Every epigraph's column.
+pub fn put_epigraphs(kkt: &Kkt<'_>, sink: &mut Sink<'_>)
+    requires { sink.old.count < 0x400_0000 }
+    ensures puts { Gains (emitted_at kkt.now (each kkt.now.grid.plan.counts.generators (segments_of kkt.now.grid.plan.counts kkt.now.grid.plan.wiring.now cost_segment))) sink.old sink.new }
+    ensures most { sink.new.count ≤ sink.old.count + 0x1_0000 }
+{
+    let own = |_: usize|
+        ensures { result ≡ None ∷ None ∷ None ∷ None ∷ [] }
+    { [None; 4] };
+    let of_segment = |j: usize, g: usize, s: usize|
+        requires { (j < kkt.now.grid.plan.counts.generators) × (g < kkt.now.index.pieces) × (s < kkt.now.grid.plan.counts.segments) }
+        ensures { result ≡ triple (item_at kkt.entry.now) (cost_segment j g s) }
+    {
+        let c = kkt.grid.plan.counts;
+        let readings = kkt.grid.plan.readings;
+        let dual = segment_dual(readings, kkt.sheet, c, kkt.index.pieces, j, g, s);
+        [
+            entry(kkt.index, Block::Segments, s, Block::Cost, g, dual),
+            None,
+            None,
+        ]
+    };
+    put_turns(&kkt.grid, own, of_segment, sink);
+}
+
+// Every column of a segment's dual.
+pub fn put_segment_duals(kkt: &Kkt<'_>, sink: &mut Sink<'_>)
+    requires { sink.old.count < 0x400_0000 }
+    ensures puts { Gains (emitted_at kkt.now (each kkt.now.grid.plan.counts.generators (segments_of kkt.now.grid.plan.counts kkt.now.grid.plan.wiring.now segment_column))) sink.old sink.new }
+    ensures most { sink.new.count ≤ sink.old.count + 0x1_0000 }
+{
+    let own = |_: usize|
+        ensures { result ≡ None ∷ None ∷ None ∷ None ∷ [] }
+    { [None; 4] };
+    let of_segment = |j: usize, g: usize, s: usize|
+        requires { (j < kkt.now.grid.plan.counts.generators) × (g < kkt.now.index.pieces) × (s < kkt.now.grid.plan.counts.segments) }
+        ensures { result ≡ triple (item_at kkt.entry.now) (segment_column j g s) }
+    {
+        let slope = kkt.grid.reading(Field::Slopes, s);
+        let c = kkt.grid.plan.counts;
+        let readings = kkt.grid.plan.readings;
+        let slack = segment_slack(readings, kkt.sheet, c, kkt.index.pieces, j, g, s);
+        [
+            entry(kkt.index, Block::Pg, j, Block::Segments, s, slope),
+            entry(kkt.index, Block::Cost, g, Block::Segments, s, -1.0),
+            entry(kkt.index, Block::Segments, s, Block::Segments, s, slack),
+        ]
+    };
+    put_turns(&kkt.grid, own, of_segment, sink);
 }

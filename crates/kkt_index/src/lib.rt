@@ -3,12 +3,12 @@
 
 ghost use Rattle.std.specs.Prelude.{◌≡◌, ◌*◌, ◌≤◌};
 ghost use Rattle.float64.specs.Values.{tolerance};
-ghost use Rattle.network.specs.Layout.{Few, WiringLaid, ReadingsLaid};
+ghost use Rattle.network.specs.Layout.{Few};
 ghost use Rattle.kkt_index.specs.Index.{rows_of, linear_row_count, Indexed, Narrow, start_in};
 
 use model::RowLimits;
 use model::rows::row_limits;
-use network::Counts;
+use network::{Counts, Plan};
 
 // The blocks of the matrix's rows and columns, in order.
 #[derive(Clone, Copy, PartialEq, Eq, Debug)]
@@ -162,15 +162,10 @@ pub fn rows_of(limits: RowLimits) -> usize
 }
 
 // How many rows of the matrix the linear rows have.
-pub fn linear_rows(wiring: &[u32], readings: &[f64], c: Counts) -> usize
-    requires wiring_laid { WiringLaid c wiring.now }
-    requires readings_laid { ReadingsLaid c readings.now }
-    ensures { (result ≡ linear_row_count c wiring.now readings.now) × (result ≤ 2 * c.rows) }
+pub fn linear_rows(plan: &Plan<'_>) -> usize
+    ensures { (result ≡ linear_row_count plan.now.counts plan.now.wiring.now plan.now.readings.now) × (result ≤ 2 * plan.now.counts.rows) }
 {
-    let mut count = 0;
-    let to = c.rows;
-    for q in 0..to {
-        count += rows_of(row_limits(wiring, readings, c, q));
-    }
-    count
+    (0..plan.counts.rows)
+        .map(|q| rows_of(row_limits(plan, q)))
+        .sum()
 }

@@ -7,9 +7,10 @@ use lib.Ieee.{Float, nan}
 use Rattle.std.specs.Prelude.{Option}
 use Rattle.sequence.specs.Lists.{each}
 use Rattle.sequence.specs.declared.Triplet.{Triplet}
-use Rattle.sequence.specs.Sheets.{Sheets, Puts}
+use Rattle.sequence.specs.declared.Sink.{Sink}
+use Rattle.sequence.specs.Sinks.{Gains}
 use Rattle.sequence.proofs.Lists.{each_same}
-use Rattle.sequence.proofs.Sheets.{done}
+use Rattle.sequence.proofs.Sinks.{done}
 use Rattle.network.specs.declared.Counts.{Counts}
 use Rattle.network.specs.declared.Field.{Field}
 use Rattle.solution.specs.declared.Entry.{Entry}
@@ -33,10 +34,10 @@ pair x ti tc s dual row b t =
     ∷ [])
 
 -- two entries that were put are the pair
-pub pair_put : (x : KktIdx) (ti : List ℕ) (tc : List Float) (s : Side) (row : ℕ) (b : Block) (t : ℕ) (dual : Float) {l i : ℕ} {u v : Float} {m n : Option Triplet} {S₀ S₁ : Sheets}
+pub pair_put : (x : KktIdx) (ti : List ℕ) (tc : List Float) (s : Side) (row : ℕ) (b : Block) (t : ℕ) (dual : Float) {i : ℕ} {u v : Float} {m n : Option Triplet} {S₀ S₁ : Sink}
     → i ≡ get_or ti t 0 → u ≡ row_times s dual (get_or tc t nan) → v ≡ column_times s (get_or tc t nan)
     → m ≡ kept (start_in x Linear + row) (start_in x b + i) u → n ≡ kept (start_in x b + i) (start_in x Linear + row) v
-    → Puts l (emits (m ∷ n ∷ [])) S₀ S₁ → Puts l (pair x ti tc s dual row b t) S₀ S₁
+    → Gains (emits (m ∷ n ∷ [])) S₀ S₁ → Gains (pair x ti tc s dual row b t) S₀ S₁
 pair_put x ti tc s row b t dual e f g h k p = rw (h, k, e, f, g) at p
 
 module _ (x : KktIdx) (R : Field → ℕ → Float) (S : Entry → ℕ → Float) (c : Counts) (w ti : List ℕ) (tc : List Float) where
@@ -46,9 +47,9 @@ module _ (x : KktIdx) (R : Field → ℕ → Float) (S : Entry → ℕ → Float
   pair_is Below q row b t = refl
   pair_is Level q row b t = refl
 
-  pub pairs_done : {l : ℕ} {S₀ S₁ : Sheets} {dual : Float} (s : Side) (q row : ℕ) (b : Block) (start : ℕ) {t n : ℕ}
-      → dual ≡ dual_on s c w ti tc R S q → t ≤ n → n ≤ t → Puts l (each t (λ i. pair x ti tc s dual row b (start + i))) S₀ S₁
-      → Puts l (emitted (start_in x) R S (each n (λ i. term_pair c w ti tc s q row b (start + i)))) S₀ S₁
+  pub pairs_done : {S₀ S₁ : Sink} {dual : Float} (s : Side) (q row : ℕ) (b : Block) (start : ℕ) {t n : ℕ}
+      → dual ≡ dual_on s c w ti tc R S q → t ≤ n → n ≤ t → Gains (each t (λ i. pair x ti tc s dual row b (start + i))) S₀ S₁
+      → Gains (emitted (start_in x) R S (each n (λ i. term_pair c w ti tc s q row b (start + i)))) S₀ S₁
   pairs_done s q row b start {n = n} e g h p =
       rw (emitted_each (start_in x) R S n (λ i. term_pair c w ti tc s q row b (start + i)), each_same n (λ i. emitted (start_in x) R S (term_pair c w ti tc s q row b (start + i))) (λ i. pair x ti tc s (dual_on s c w ti tc R S q) row b (start + i)) (λ i k. pair_is s q row b (start + i)))
       (done (λ i. pair x ti tc s (dual_on s c w ti tc R S q) row b (start + i)) g h (rw e at p))

@@ -9,8 +9,10 @@ use lib.Ieee.{Float}
 use Rattle.std.specs.Prelude.{Option}
 use Rattle.sequence.specs.Lists.{each}
 use Rattle.sequence.specs.declared.Triplet.{Triplet}
-use Rattle.sequence.specs.Sheets.{emit, Sheets, Puts}
-use Rattle.sequence.proofs.Sheets.{none}
+use Rattle.sequence.specs.declared.Sink.{Sink}
+use Rattle.sequence.specs.Sheets.{emit}
+use Rattle.sequence.specs.Sinks.{Gains}
+use Rattle.sequence.proofs.Sinks.{none}
 use Rattle.network.specs.declared.Counts.{Counts}
 use Rattle.network.specs.declared.Field.{Field}
 use Rattle.network.specs.declared.Part.TheVariants.{FlowTerms, GenerationTerms}
@@ -28,17 +30,17 @@ use Rattle.kkt.specs.Matrix.{kept, emitted}
 use Rattle.kkt.specs.Walks.{slackens, slack_on}
 use Rattle.kkt.proofs.Emitted.{puts_then, puts_one}
 
-module _ (x : KktIdx) (R : Field → ℕ → Float) (S : Entry → ℕ → Float) {l : ℕ} where
-  pub nothing_put : {S₀ : Sheets} → Puts l (emitted (start_in x) R S []) S₀ S₀
+module _ (x : KktIdx) (R : Field → ℕ → Float) (S : Entry → ℕ → Float) where
+  pub nothing_put : {S₀ : Sink} → Gains (emitted (start_in x) R S []) S₀ S₀
   unfolding emitted
   nothing_put = none
 
-  module _ (c : Counts) (w ti : List ℕ) (tc : List Float) (s : Side) (q row : ℕ) {S₀ S₁ : Sheets} where
-    pub both_terms : {S₂ : Sheets} {start flows generations : ℕ}
+  module _ (c : Counts) (w ti : List ℕ) (tc : List Float) (s : Side) (q row : ℕ) {S₀ S₁ : Sink} where
+    pub both_terms : {S₂ : Sink} {start flows generations : ℕ}
         → start ≡ term_start c w q → flows ≡ wire c w FlowTerms q → generations ≡ wire c w GenerationTerms q
-        → Puts l (emitted (start_in x) R S (each flows (λ t. term_pair c w ti tc s q row Flow (start + t)))) S₀ S₁
-        → Puts l (emitted (start_in x) R S (each generations (λ t. term_pair c w ti tc s q row Pg (start + flows + t)))) S₁ S₂
-        → Puts l (emitted (start_in x) R S (term_slots c w ti tc s q row)) S₀ S₂
+        → Gains (emitted (start_in x) R S (each flows (λ t. term_pair c w ti tc s q row Flow (start + t)))) S₀ S₁
+        → Gains (emitted (start_in x) R S (each generations (λ t. term_pair c w ti tc s q row Pg (start + flows + t)))) S₁ S₂
+        → Gains (emitted (start_in x) R S (term_slots c w ti tc s q row)) S₀ S₂
     both_terms e f g a b =
         puts_then (start_in x) R S (each (wire c w FlowTerms q) (λ t. term_pair c w ti tc s q row Flow (term_start c w q + t)))
         (each (wire c w GenerationTerms q) (λ t. term_pair c w ti tc s q row Pg (term_start c w q + wire c w FlowTerms q + t)))
@@ -47,15 +49,15 @@ module _ (x : KktIdx) (R : Field → ℕ → Float) (S : Entry → ℕ → Float
 
   module _ (c : Counts) (w ti : List ℕ) (tc : List Float) where
     -- an equality has no slack
-    pub level_done : {S₀ S₁ : Sheets} (s : Side) (q row : ℕ) → slackens s ≡ false → Puts l (emitted (start_in x) R S (term_slots c w ti tc s q row)) S₀ S₁ → Puts l (emitted (start_in x) R S (side_slots c w ti tc s q row)) S₀ S₁
+    pub level_done : {S₀ S₁ : Sink} (s : Side) (q row : ℕ) → slackens s ≡ false → Gains (emitted (start_in x) R S (term_slots c w ti tc s q row)) S₀ S₁ → Gains (emitted (start_in x) R S (side_slots c w ti tc s q row)) S₀ S₁
     level_done Above q row h p = absurd (subst T h tt)
     level_done Below q row h p = absurd (subst T h tt)
     level_done Level q row h p = rw append-nil p
 
     -- the terms, and then the slack on the diagonal
-    pub slack_done : {S₀ S₁ S₂ : Sheets} {slack : Float} {t : Option Triplet} (s : Side) (q row : ℕ) → slackens s ≡ true → slack ≡ slack_on s c w ti tc R S q
+    pub slack_done : {S₀ S₁ S₂ : Sink} {slack : Float} {t : Option Triplet} (s : Side) (q row : ℕ) → slackens s ≡ true → slack ≡ slack_on s c w ti tc R S q
         → t ≡ kept (start_in x Linear + row) (start_in x Linear + row) slack
-        → Puts l (emitted (start_in x) R S (term_slots c w ti tc s q row)) S₀ S₁ → Puts l (emit t) S₁ S₂ → Puts l (emitted (start_in x) R S (side_slots c w ti tc s q row)) S₀ S₂
+        → Gains (emitted (start_in x) R S (term_slots c w ti tc s q row)) S₀ S₁ → Gains (emit t) S₁ S₂ → Gains (emitted (start_in x) R S (side_slots c w ti tc s q row)) S₀ S₂
     slack_done Above q row h e f p o =
         puts_then (start_in x) R S (term_slots c w ti tc Above q row) (diagonal c w ti tc Above q row) p (puts_one (start_in x) R S _ (rw (f, e) at o))
     slack_done Below q row h e f p o =
@@ -63,11 +65,11 @@ module _ (x : KktIdx) (R : Field → ℕ → Float) (S : Entry → ℕ → Float
     slack_done Level q row h e f p o = absurd (subst T (sym h) tt)
 
     -- a row by its limits, whatever they are found to be
-    pub row_done : {S₀ S₁ : Sheets} {k v : RowLimits} (r : List Float) (q row : ℕ) → k ≡ row_limits c w r q → k ≡ v
-        → Puts l (emitted (start_in x) R S (row_slots c w ti tc (shape_of v) q row)) S₀ S₁
-        → Puts l (emitted (start_in x) R S (row_slots c w ti tc (shape_of (row_limits c w r q)) q row)) S₀ S₁
+    pub row_done : {S₀ S₁ : Sink} {k v : RowLimits} (r : List Float) (q row : ℕ) → k ≡ row_limits c w r q → k ≡ v
+        → Gains (emitted (start_in x) R S (row_slots c w ti tc (shape_of v) q row)) S₀ S₁
+        → Gains (emitted (start_in x) R S (row_slots c w ti tc (shape_of (row_limits c w r q)) q row)) S₀ S₁
     row_done r q row e h p = rw (← e, h) p
 
     -- a row that was put at a place is the row there
-    pub placed : {S₀ S₁ : Sheets} {row at : ℕ} (k : Shape) (q : ℕ) → row ≡ at → Puts l (emitted (start_in x) R S (row_slots c w ti tc k q row)) S₀ S₁ → Puts l (emitted (start_in x) R S (row_slots c w ti tc k q at)) S₀ S₁
+    pub placed : {S₀ S₁ : Sink} {row at : ℕ} (k : Shape) (q : ℕ) → row ≡ at → Gains (emitted (start_in x) R S (row_slots c w ti tc k q row)) S₀ S₁ → Gains (emitted (start_in x) R S (row_slots c w ti tc k q at)) S₀ S₁
     placed k q e p = rw e at p

@@ -1,61 +1,30 @@
 // The linear rows, each with its rows and its columns.
 #![tactic(auto)]
 
-ghost use Rattle.std.specs.Prelude.{◌≡◌, ◌++◌, ℕ, ◌+◌, ◌*◌, ◌<◌, ◌≤◌, length, get_or};
+ghost use Rattle.std.specs.Prelude.{◌≡◌, ◌++◌, ℕ, ◌+◌, ◌*◌, ◌<◌, ◌≤◌, get_or};
 ghost use Rattle.sequence.specs.Lists.{each};
-ghost use Rattle.sequence.specs.Sheets.{held, Puts, Room};
-ghost use Rattle.network.specs.Layout.{reading, term_start};
-ghost use Rattle.network.specs.Numbers.{Termed};
+ghost use Rattle.sequence.specs.Sinks.{Gains};
+ghost use Rattle.network.specs.Layout.{term_start};
 ghost use Rattle.model.specs.Rows.{row_limits};
-ghost use Rattle.kkt_index.specs.Index.{start_in, shape_of, linear_start};
-ghost use Rattle.solution.specs.Sheet.{solved};
-ghost use Rattle.snapping.specs.Snap.{duals};
-ghost use Rattle.kkt.specs.Slots.{term_pair, term_slots, side_slots, row_slots};
-ghost use Rattle.kkt.specs.Matrix.{emitted};
-ghost use Rattle.kkt.specs.Walks.{Lent, slackens, dual_on, slack_on, row_times, column_times};
+ghost use Rattle.kkt_index.specs.Index.{shape_of, linear_start};
 ghost use Rattle.kkt.specs.declared.Side.TheVariants.{Above, Below};
+ghost use Rattle.kkt.specs.Slots.{row_slots};
+ghost use Rattle.kkt.specs.Walks.{emitted_at};
+ghost use Rattle.kkt_rows.specs.Sides.{dual_at, slack_at, pair_at, terms_at, side_at};
 
-use kkt::{Side, entry, put_all};
-use kkt_index::{Block, KktIdx, rows_of};
+use kkt::{KktSite, Side, entry, put_all};
+use kkt_index::{Block, rows_of};
 use model::RowLimits;
 use model::rows::row_limits;
-use network::check::row_terms;
-use network::layout::{reading, wide, word};
-use network::{Counts, Field, Part};
-use sequence::put;
+use network::layout::wide;
+use network::{Field, Part};
+use sequence::Sink;
 use snapping::{LinearDuals, row_value, snap_linear_at};
-
-// What a side with a dual holds in its row against a term of a coefficient.
-fn row_times(s: Side, dual: f64, coefficient: f64) -> f64
-    ensures { result ≡ row_times s dual coefficient }
-{
-    match s {
-        Side::Above => -dual * coefficient,
-        Side::Below => dual * coefficient,
-        Side::Level => coefficient,
-    }
-}
-
-// What it holds in its column.
-fn column_times(s: Side, coefficient: f64) -> f64
-    ensures { result ≡ column_times s coefficient }
-{
-    match s {
-        Side::Above => coefficient,
-        Side::Below => -coefficient,
-        Side::Level => coefficient,
-    }
-}
+use solution::OperatingPoint;
 
 // `count` terms of linear row q from a place on, which name indexes of block b: a pair of entries each.
 fn put_terms(
-    wiring: &[u32],
-    readings: &[f64],
-    term_index: &[u32],
-    term_coefficient: &[f64],
-    sheet: &[f64],
-    c: Counts,
-    x: KktIdx,
+    site: &KktSite<'_>,
     s: Side,
     dual: f64,
     q: usize,
@@ -63,419 +32,167 @@ fn put_terms(
     b: Block,
     start: usize,
     count: usize,
-    rows: &mut [u32],
-    cols: &mut [u32],
-    values: &mut [f64],
-    limit: usize,
-    at: usize,
-) -> usize
-    requires lent { Lent c wiring.now readings.now sheet.now x }
-    requires count_in_bounds { (start + count ≤ length term_index.now) × (start + count ≤ length term_coefficient.now) × (start + count ≤ 1024) }
-    requires by_index { (t : ℕ) → t < count → get_or term_index.now (start + t) 0 ≤ 0x1_0000 }
-    requires dual_value { (dual ≡ dual_on s c wiring.now term_index.now term_coefficient.now (reading c readings.now) (solved c x.pieces sheet.now) q) × (row ≤ 128) × (at < 0x1000_0000) }
-    requires room { Room limit (held rows cols values at) }
-    ensures puts { Puts limit (emitted (start_in x) (reading c readings.now) (solved c x.pieces sheet.now) (each count (λ t. term_pair c wiring.now term_index.now term_coefficient.now s q row b (start + t)))) (held rows.entry cols.entry values.entry at) (held rows.exit cols.exit values.exit result) }
-    ensures most { result ≤ at + 2 * count }
+    sink: &mut Sink<'_>,
+)
+    requires in_terms { start + count ≤ site.now.kkt.grid.plan.counts.terms }
+    requires by_index { (t : ℕ) → t < count → get_or site.now.term_index.now (start + t) 0 ≤ 0x1_0000 }
+    requires dual_value { dual ≡ dual_at site.now s q }
+    requires at_bound { (row ≤ 128) × (sink.old.count < 0x1000_0000) }
+    ensures puts { Gains (emitted_at site.now.kkt (each count (λ t. pair_at site.now s q row b (start + t)))) sink.old sink.new }
+    ensures most { sink.new.count ≤ sink.old.count + 2 * count }
 {
-    let mut k = at;
+    let x = site.kkt.index;
     for t in 0..count {
-        let i = wide(term_index[start + t]);
-        let coefficient = term_coefficient[start + t];
+        let i = wide(site.term_index[start + t]);
+        let coefficient = site.term_coefficient[start + t];
+        let in_row = s.row_times(dual, coefficient);
+        let in_column = s.column_times(coefficient);
         let pair = [
-            entry(x, Block::Linear, row, b, i, row_times(s, dual, coefficient)),
-            entry(x, b, i, Block::Linear, row, column_times(s, coefficient)),
+            entry(x, Block::Linear, row, b, i, in_row),
+            entry(x, b, i, Block::Linear, row, in_column),
         ];
-        k = put_all(rows, cols, values, limit, k, pair);
+        put_all(sink, pair);
     }
-    k
 }
 
 // Both runs of terms of linear row q: those of flows, then those of dispatch.
 fn put_both_terms(
-    wiring: &[u32],
-    readings: &[f64],
-    term_index: &[u32],
-    term_coefficient: &[f64],
-    sheet: &[f64],
-    c: Counts,
-    x: KktIdx,
+    site: &KktSite<'_>,
     s: Side,
     dual: f64,
     q: usize,
     row: usize,
     start: usize,
-    rows: &mut [u32],
-    cols: &mut [u32],
-    values: &mut [f64],
-    limit: usize,
-    at: usize,
-) -> usize
-    requires lent { Lent c wiring.now readings.now sheet.now x }
-    requires termed { Termed c wiring.now term_index.now term_coefficient.now }
-    requires q_lt_rows { (q < c.rows) × (start ≡ term_start c wiring.now q) }
-    requires dual_value { (dual ≡ dual_on s c wiring.now term_index.now term_coefficient.now (reading c readings.now) (solved c x.pieces sheet.now) q) × (row ≤ 128) × (at < 0x800_0000) }
-    requires room { Room limit (held rows cols values at) }
-    ensures puts { Puts limit (emitted (start_in x) (reading c readings.now) (solved c x.pieces sheet.now) (term_slots c wiring.now term_index.now term_coefficient.now s q row)) (held rows.entry cols.entry values.entry at) (held rows.exit cols.exit values.exit result) }
-    ensures most { result ≤ at + 2048 }
+    sink: &mut Sink<'_>,
+)
+    requires q_lt_rows { q < site.now.kkt.grid.plan.counts.rows }
+    requires start_value { start ≡ term_start site.now.kkt.grid.plan.counts site.now.kkt.grid.plan.wiring.now q }
+    requires dual_value { dual ≡ dual_at site.now s q }
+    requires at_bound { (row ≤ 128) × (sink.old.count < 0x800_0000) }
+    ensures puts { Gains (emitted_at site.now.kkt (terms_at site.now s q row)) sink.old sink.new }
+    ensures most { sink.new.count ≤ sink.old.count + 2048 }
 {
-    let flows = word(wiring, c, Part::FlowTerms, q);
-    let generations = word(wiring, c, Part::GenerationTerms, q);
-    let k = put_terms(
-        wiring,
-        readings,
-        term_index,
-        term_coefficient,
-        sheet,
-        c,
-        x,
-        s,
-        dual,
-        q,
-        row,
-        Block::Flow,
-        start,
-        flows,
-        rows,
-        cols,
-        values,
-        limit,
-        at,
-    );
-    put_terms(
-        wiring,
-        readings,
-        term_index,
-        term_coefficient,
-        sheet,
-        c,
-        x,
-        s,
-        dual,
-        q,
-        row,
-        Block::Pg,
-        start + flows,
-        generations,
-        rows,
-        cols,
-        values,
-        limit,
-        k,
-    )
-}
-
-// Whether a side has a slack: an equality has none.
-fn slackens(s: Side) -> bool
-    ensures { result ≡ slackens s }
-{
-    match s {
-        Side::Above => true,
-        Side::Below => true,
-        Side::Level => false,
-    }
+    let flows = site.kkt.grid.word(Part::FlowTerms, q);
+    let generations = site.kkt.grid.word(Part::GenerationTerms, q);
+    put_terms(site, s, dual, q, row, Block::Flow, start, flows, sink);
+    let start = start + flows;
+    put_terms(site, s, dual, q, row, Block::Pg, start, generations, sink);
 }
 
 // One side of linear row q, which is a row of the linear block: its terms, and its slack on the diagonal.
 fn put_side(
-    wiring: &[u32],
-    readings: &[f64],
-    term_index: &[u32],
-    term_coefficient: &[f64],
-    sheet: &[f64],
-    c: Counts,
-    x: KktIdx,
+    site: &KktSite<'_>,
     s: Side,
     dual: f64,
     slack: f64,
     q: usize,
     row: usize,
     start: usize,
-    rows: &mut [u32],
-    cols: &mut [u32],
-    values: &mut [f64],
-    limit: usize,
-    at: usize,
-) -> usize
-    requires lent { Lent c wiring.now readings.now sheet.now x }
-    requires termed { Termed c wiring.now term_index.now term_coefficient.now }
-    requires q_lt_rows { (q < c.rows) × (start ≡ term_start c wiring.now q) }
-    requires dual_value { (dual ≡ dual_on s c wiring.now term_index.now term_coefficient.now (reading c readings.now) (solved c x.pieces sheet.now) q) × (slack ≡ slack_on s c wiring.now term_index.now term_coefficient.now (reading c readings.now) (solved c x.pieces sheet.now) q) × (row ≤ 128) × (at < 0x800_0000) }
-    requires room { Room limit (held rows cols values at) }
-    ensures puts { Puts limit (emitted (start_in x) (reading c readings.now) (solved c x.pieces sheet.now) (side_slots c wiring.now term_index.now term_coefficient.now s q row)) (held rows.entry cols.entry values.entry at) (held rows.exit cols.exit values.exit result) }
-    ensures most { result ≤ at + 2049 }
+    sink: &mut Sink<'_>,
+)
+    requires q_lt_rows { q < site.now.kkt.grid.plan.counts.rows }
+    requires start_value { start ≡ term_start site.now.kkt.grid.plan.counts site.now.kkt.grid.plan.wiring.now q }
+    requires dual_value { dual ≡ dual_at site.now s q }
+    requires slack_value { slack ≡ slack_at site.now s q }
+    requires at_bound { (row ≤ 128) × (sink.old.count < 0x800_0000) }
+    ensures puts { Gains (emitted_at site.now.kkt (side_at site.now s q row)) sink.old sink.new }
+    ensures most { sink.new.count ≤ sink.old.count + 2049 }
 {
-    let k = put_both_terms(
-        wiring,
-        readings,
-        term_index,
-        term_coefficient,
-        sheet,
-        c,
-        x,
-        s,
-        dual,
-        q,
-        row,
-        start,
-        rows,
-        cols,
-        values,
-        limit,
-        at,
-    );
-    if !slackens(s) {
-        return k;
+    put_both_terms(site, s, dual, q, row, start, sink);
+    if !s.slackens() {
+        return;
     }
-    put(
-        rows,
-        cols,
-        values,
-        limit,
-        k,
-        entry(x, Block::Linear, row, Block::Linear, row, slack),
-    )
+    let x = site.kkt.index;
+    sink.put(entry(x, Block::Linear, row, Block::Linear, row, slack));
 }
 
 // Both sides of linear row q, whose limits differ: upper, then lower.
 fn put_two_sides(
-    wiring: &[u32],
-    readings: &[f64],
-    term_index: &[u32],
-    term_coefficient: &[f64],
-    sheet: &[f64],
-    c: Counts,
-    x: KktIdx,
+    site: &KktSite<'_>,
     duals: LinearDuals,
     above: f64,
     below: f64,
     q: usize,
     row: usize,
     start: usize,
-    rows: &mut [u32],
-    cols: &mut [u32],
-    values: &mut [f64],
-    limit: usize,
-    at: usize,
-) -> usize
-    requires lent { Lent c wiring.now readings.now sheet.now x }
-    requires termed { Termed c wiring.now term_index.now term_coefficient.now }
-    requires q_lt_rows { (q < c.rows) × (start ≡ term_start c wiring.now q) }
-    requires upper_value { (duals.upper ≡ dual_on Above c wiring.now term_index.now term_coefficient.now (reading c readings.now) (solved c x.pieces sheet.now) q) × (duals.lower ≡ dual_on Below c wiring.now term_index.now term_coefficient.now (reading c readings.now) (solved c x.pieces sheet.now) q) }
-    requires above_value { (above ≡ slack_on Above c wiring.now term_index.now term_coefficient.now (reading c readings.now) (solved c x.pieces sheet.now) q) × (below ≡ slack_on Below c wiring.now term_index.now term_coefficient.now (reading c readings.now) (solved c x.pieces sheet.now) q) × (row < 128) × (at < 0x400_0000) }
-    requires room { Room limit (held rows cols values at) }
-    ensures puts { Puts limit (emitted (start_in x) (reading c readings.now) (solved c x.pieces sheet.now) (side_slots c wiring.now term_index.now term_coefficient.now Above q row ++ side_slots c wiring.now term_index.now term_coefficient.now Below q (row + 1))) (held rows.entry cols.entry values.entry at) (held rows.exit cols.exit values.exit result) }
-    ensures most { result ≤ at + 4098 }
+    sink: &mut Sink<'_>,
+)
+    requires q_lt_rows { q < site.now.kkt.grid.plan.counts.rows }
+    requires start_value { start ≡ term_start site.now.kkt.grid.plan.counts site.now.kkt.grid.plan.wiring.now q }
+    requires dual_values { (duals.upper ≡ dual_at site.now Above q) × (duals.lower ≡ dual_at site.now Below q) }
+    requires slack_values { (above ≡ slack_at site.now Above q) × (below ≡ slack_at site.now Below q) }
+    requires at_bound { (row < 128) × (sink.old.count < 0x400_0000) }
+    ensures puts { Gains (emitted_at site.now.kkt (side_at site.now Above q row ++ side_at site.now Below q (row + 1))) sink.old sink.new }
+    ensures most { sink.new.count ≤ sink.old.count + 4098 }
 {
-    let k = put_side(
-        wiring,
-        readings,
-        term_index,
-        term_coefficient,
-        sheet,
-        c,
-        x,
-        Side::Above,
-        duals.upper,
-        above,
-        q,
-        row,
-        start,
-        rows,
-        cols,
-        values,
-        limit,
-        at,
-    );
+    put_side(site, Side::Above, duals.upper, above, q, row, start, sink);
     put_side(
-        wiring,
-        readings,
-        term_index,
-        term_coefficient,
-        sheet,
-        c,
-        x,
+        site,
         Side::Below,
         duals.lower,
         below,
         q,
         row + 1,
         start,
-        rows,
-        cols,
-        values,
-        limit,
-        k,
-    )
+        sink,
+    );
 }
 
 // Linear row q, by its limits. It starts at a row of the linear block, and its terms at a place.
-fn put_row(
-    wiring: &[u32],
-    readings: &[f64],
-    term_index: &[u32],
-    term_coefficient: &[f64],
-    sheet: &[f64],
-    c: Counts,
-    x: KktIdx,
-    q: usize,
-    row: usize,
-    start: usize,
-    rows: &mut [u32],
-    cols: &mut [u32],
-    values: &mut [f64],
-    limit: usize,
-    at: usize,
-) -> usize
-    requires lent { Lent c wiring.now readings.now sheet.now x }
-    requires termed { Termed c wiring.now term_index.now term_coefficient.now }
-    requires q_lt_rows { (q < c.rows) × (start ≡ term_start c wiring.now q) × (row < 128) × (at < 0x400_0000) }
-    requires room { Room limit (held rows cols values at) }
-    ensures puts { Puts limit (emitted (start_in x) (reading c readings.now) (solved c x.pieces sheet.now) (row_slots c wiring.now term_index.now term_coefficient.now (shape_of (row_limits c wiring.now readings.now q)) q row)) (held rows.entry cols.entry values.entry at) (held rows.exit cols.exit values.exit result) }
-    ensures most { result ≤ at + 4098 }
+fn put_row(site: &KktSite<'_>, q: usize, row: usize, start: usize, sink: &mut Sink<'_>)
+    requires q_lt_rows { q < site.now.kkt.grid.plan.counts.rows }
+    requires start_value { start ≡ term_start site.now.kkt.grid.plan.counts site.now.kkt.grid.plan.wiring.now q }
+    requires at_bound { (row < 128) × (sink.old.count < 0x400_0000) }
+    ensures puts { let c = site.now.kkt.grid.plan.counts in let w = site.now.kkt.grid.plan.wiring.now in Gains (emitted_at site.now.kkt (row_slots c w site.now.term_index.now site.now.term_coefficient.now (shape_of (row_limits c w site.now.kkt.grid.plan.readings.now q)) q row)) sink.old sink.new }
+    ensures most { sink.new.count ≤ sink.old.count + 4098 }
 {
-    let duals = snap_linear_at(
-        wiring,
-        readings,
-        term_index,
-        term_coefficient,
-        sheet,
-        c,
-        x.pieces,
+    let point = OperatingPoint {
+        grid: site.kkt.grid,
+        pieces: site.kkt.index.pieces,
+        sheet: site.kkt.sheet,
+    };
+    let duals = snap_linear_at(&point, site.term_index, site.term_coefficient, q);
+    let value = row_value(
+        site.kkt.grid.plan.wiring,
+        site.term_index,
+        site.term_coefficient,
+        site.kkt.sheet,
+        site.kkt.grid.plan.counts,
+        site.kkt.index.pieces,
         q,
     );
-    let value = row_value(wiring, term_index, term_coefficient, sheet, c, x.pieces, q);
-    let base = reading(readings, c, Field::BaseMva, 0);
-    match row_limits(wiring, readings, c, q) {
-        RowLimits::None => at,
-        RowLimits::Upper(upper) => put_side(
-            wiring,
-            readings,
-            term_index,
-            term_coefficient,
-            sheet,
-            c,
-            x,
-            Side::Above,
-            duals.upper,
-            upper / base - value,
-            q,
-            row,
-            start,
-            rows,
-            cols,
-            values,
-            limit,
-            at,
-        ),
-        RowLimits::Lower(lower) => put_side(
-            wiring,
-            readings,
-            term_index,
-            term_coefficient,
-            sheet,
-            c,
-            x,
-            Side::Below,
-            duals.lower,
-            value - lower / base,
-            q,
-            row,
-            start,
-            rows,
-            cols,
-            values,
-            limit,
-            at,
-        ),
-        RowLimits::Both(upper, lower) => put_two_sides(
-            wiring,
-            readings,
-            term_index,
-            term_coefficient,
-            sheet,
-            c,
-            x,
-            duals,
-            upper / base - value,
-            value - lower / base,
-            q,
-            row,
-            start,
-            rows,
-            cols,
-            values,
-            limit,
-            at,
-        ),
-        RowLimits::Equal(_) => put_side(
-            wiring,
-            readings,
-            term_index,
-            term_coefficient,
-            sheet,
-            c,
-            x,
-            Side::Level,
-            0.0,
-            0.0,
-            q,
-            row,
-            start,
-            rows,
-            cols,
-            values,
-            limit,
-            at,
-        ),
+    let base = site.kkt.grid.reading(Field::BaseMva, 0);
+    match row_limits(&site.kkt.grid.plan, q) {
+        RowLimits::None => {}
+        RowLimits::Upper(upper) => {
+            let above = upper / base - value;
+            put_side(site, Side::Above, duals.upper, above, q, row, start, sink)
+        }
+        RowLimits::Lower(lower) => {
+            let below = value - lower / base;
+            put_side(site, Side::Below, duals.lower, below, q, row, start, sink)
+        }
+        RowLimits::Both(upper, lower) => {
+            let above = upper / base - value;
+            let below = value - lower / base;
+            put_two_sides(site, duals, above, below, q, row, start, sink)
+        }
+        RowLimits::Equal(_) => put_side(site, Side::Level, 0.0, 0.0, q, row, start, sink),
     }
 }
 
 // Every linear row.
-pub fn put_rows(
-    wiring: &[u32],
-    readings: &[f64],
-    term_index: &[u32],
-    term_coefficient: &[f64],
-    sheet: &[f64],
-    c: Counts,
-    x: KktIdx,
-    rows: &mut [u32],
-    cols: &mut [u32],
-    values: &mut [f64],
-    limit: usize,
-    at: usize,
-) -> usize
-    requires lent { Lent c wiring.now readings.now sheet.now x }
-    requires termed { Termed c wiring.now term_index.now term_coefficient.now }
-    requires at_bound { at < 0x200_0000 }
-    requires room { Room limit (held rows cols values at) }
-    ensures puts { Puts limit (emitted (start_in x) (reading c readings.now) (solved c x.pieces sheet.now) (each c.rows (λ q. row_slots c wiring.now term_index.now term_coefficient.now (shape_of (row_limits c wiring.now readings.now q)) q (linear_start c wiring.now readings.now q)))) (held rows.entry cols.entry values.entry at) (held rows.exit cols.exit values.exit result) }
-    ensures most { result ≤ at + 0x8_0000 }
+pub fn put_rows(site: &KktSite<'_>, sink: &mut Sink<'_>)
+    requires { sink.old.count < 0x200_0000 }
+    ensures puts { let c = site.now.kkt.grid.plan.counts in let w = site.now.kkt.grid.plan.wiring.now in let r = site.now.kkt.grid.plan.readings.now in Gains (emitted_at site.now.kkt (each c.rows (λ q. row_slots c w site.now.term_index.now site.now.term_coefficient.now (shape_of (row_limits c w r q)) q (linear_start c w r q)))) sink.old sink.new }
+    ensures most { sink.new.count ≤ sink.old.count + 0x8_0000 }
 {
-    let to = c.rows;
-    let mut k = at;
+    let to = site.kkt.grid.plan.counts.rows;
     let mut row = 0;
     let mut start = 0;
     for q in 0..to {
-        k = put_row(
-            wiring,
-            readings,
-            term_index,
-            term_coefficient,
-            sheet,
-            c,
-            x,
-            q,
-            row,
-            start,
-            rows,
-            cols,
-            values,
-            limit,
-            k,
-        );
-        row += rows_of(row_limits(wiring, readings, c, q));
-        start += row_terms(wiring, c, q);
+        put_row(site, q, row, start, sink);
+        row += rows_of(row_limits(&site.kkt.grid.plan, q));
+        start += site.kkt.grid.plan.row_terms(q);
     }
-    k
 }

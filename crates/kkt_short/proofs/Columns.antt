@@ -1,31 +1,16 @@
 -- The blocks whose columns are short: at most 512 columns, of at most three slots.
--- Main results: `short_holds`, `few_turns`, `few_slots`. Assumes nothing.
-use mathlib.Core.Path.{◌≡◌, sym, subst}
-use mathlib.Core.Bool.{Bool, true, false}
+-- Main results: `few_turns`, `few_slots`. Assumes nothing.
+use mathlib.Core.Path.{◌≡◌}
+use mathlib.Core.Bool.{true}
 use Prim.Native.Nat.{ℕ, ◌≤◌}
 use native.Mathlib.Omega.{arith}
-use lib.Dec.{T}
 use lib.ListN.{length}
 use Rattle.network.specs.declared.Counts.{Counts}
 use Rattle.network.specs.Layout.{Few}
 use Rattle.kkt_index.specs.declared.Block.{Block}
 use Rattle.kkt_index.specs.declared.Block.TheVariants.{Va, Pg, Flow, Psh, Cost, LamLb, LamUb, GammaLb, GammaUb, RhoLb, RhoUb, MuLb, MuUb, Segments, Linear, NuBal, NuFlow, Eta}
-use Rattle.kkt.specs.declared.Work.{Work}
-use Rattle.kkt.specs.declared.Work.TheVariants.{Angles, Dispatch, Short, Epigraph, SegmentDuals, Balances, Rows}
 use Rattle.kkt.specs.Slots.{Site, columns, turns_of}
-use Rattle.kkt.specs.Walks.{work_of}
-
-abbrev pub is_short : Work → Bool
-is_short Angles = false
-is_short Dispatch = false
-is_short Short = true
-is_short Epigraph = false
-is_short SegmentDuals = false
-is_short Balances = false
-is_short Rows = false
-
-pub short_holds : (b : Block) → work_of b ≡ Short → T (is_short (work_of b))
-short_holds b e = subst (λ (w : Work). T (is_short w)) (sym e) tt
+use Rattle.kkt.specs.Walks.{is_short}
 
 pub few_turns : (c : Counts) (b : Block) → Few c → turns_of c b ≤ 512
 few_turns c Va h = omega (arith, h.buses)
@@ -47,13 +32,13 @@ few_turns c NuBal h = omega (arith, h.buses)
 few_turns c NuFlow h = omega (arith, h.branches)
 few_turns c Eta h = omega (arith, h.references)
 
-pub few_slots : (s : Site) (b : Block) (i : ℕ) → T (is_short (work_of b)) → length (columns s b i) ≤ 3
+pub few_slots : (s : Site) (b : Block) (i : ℕ) → is_short b ≡ true → length (columns s b i) ≤ 3
 unfolding columns
-few_slots s Va i h = absurd h
-few_slots s Pg i h = absurd h
+few_slots s Va i h = absurd (cc)
+few_slots s Pg i h = absurd (cc)
 few_slots s Flow i h = omega arith
 few_slots s Psh i h = omega arith
-few_slots s Cost i h = absurd h
+few_slots s Cost i h = absurd (cc)
 few_slots s LamLb i h = omega arith
 few_slots s LamUb i h = omega arith
 few_slots s GammaLb i h = omega arith
@@ -62,8 +47,8 @@ few_slots s RhoLb i h = omega arith
 few_slots s RhoUb i h = omega arith
 few_slots s MuLb i h = omega arith
 few_slots s MuUb i h = omega arith
-few_slots s Segments i h = absurd h
-few_slots s Linear i h = absurd h
-few_slots s NuBal i h = absurd h
+few_slots s Segments i h = absurd (cc)
+few_slots s Linear i h = absurd (cc)
+few_slots s NuBal i h = absurd (cc)
 few_slots s NuFlow i h = omega arith
 few_slots s Eta i h = omega arith

@@ -1,55 +1,48 @@
 // Columns of at most three entries: those of branches, of buses' sheds and of references.
 #![tactic(auto)]
 
-ghost use Rattle.std.specs.Prelude.{◌≡◌, ◌+◌, ◌<◌, ◌≤◌, cond, None};
+ghost use Rattle.std.specs.Prelude.{◌≡◌, ◌+◌, ◌<◌, ◌≤◌, cond, None, IsTrue};
 ghost use Rattle.sequence.specs.Lists.{each};
-ghost use Rattle.sequence.specs.Sheets.{held, Puts, Room};
+ghost use Rattle.sequence.specs.Sinks.{Gains};
 ghost use Rattle.network.specs.declared.Part.TheVariants.{BrFrom, BrTo};
-ghost use Rattle.network.specs.Layout.{reading, wire};
-ghost use Rattle.network.specs.Numbers.{Wired};
-ghost use Rattle.kkt_index.specs.Index.{Narrow, start_in};
+ghost use Rattle.network.specs.Layout.{wire};
+ghost use Rattle.kkt_index.specs.Index.{start_in};
 ghost use Rattle.kkt_index.specs.declared.Block.TheVariants.{Va};
-ghost use Rattle.solution.specs.Sheet.{solved};
 ghost use Rattle.snapping.specs.States.{by_state};
-ghost use Rattle.kkt.specs.declared.Work.TheVariants.{Short};
-ghost use Rattle.kkt.specs.Slots.{Site, columns, turns_of, flow_column, psh_column, lam_lb_column, lam_ub_column, gamma_lb_column, gamma_ub_column, rho_lb_column, rho_ub_column, mu_lb_column, mu_ub_column, nu_flow_column, eta_column};
-ghost use Rattle.kkt.specs.Matrix.{kept, emitted};
-ghost use Rattle.kkt.specs.Walks.{Lent, item_in, three, triple, work_of};
+ghost use Rattle.kkt.specs.Slots.{Site, columns, turns_of, flow_column, psh_column, gamma_lb_column, gamma_ub_column, mu_lb_column, mu_ub_column, nu_flow_column, eta_column};
+ghost use Rattle.kkt.specs.Matrix.{kept};
+ghost use Rattle.kkt.specs.Walks.{three, triple, is_short, item_at, emitted_at};
 
-use kkt::{entry, put_all};
-use kkt_index::{Block, KktIdx};
+use kkt::{Kkt, entry, put_all};
+use kkt_index::Block;
 use model::withdrawal::shed_cap_at;
-use network::layout::{reading, word};
 use network::{Counts, Field, Part};
-use sequence::Triplet;
+use sequence::{Sink, Triplet};
 use snapping::{BusState, angle, bus_state, is_fixed_zero_shed, shed_of};
-use solution::{Entry, solved_at};
+use solution::Entry;
 
 // A bound's column: its gradient's entry a, and its slack d on the diagonal.
 fn bound_column(
-    x: KktIdx,
+    kkt: &Kkt<'_>,
     a: Block,
     b: Block,
     i: usize,
     gradient: f64,
     slack: f64,
 ) -> [Option<Triplet>; 3]
-    requires narrow { Narrow x }
-    requires i_bound { i ≤ 0x1_0000 }
-    ensures { result ≡ three (kept (start_in x a + i) (start_in x b + i) gradient) (kept (start_in x b + i) (start_in x b + i) slack) None }
+    requires { i ≤ 0x1_0000 }
+    ensures { let x = kkt.now.index in result ≡ three (kept (start_in x a + i) (start_in x b + i) gradient) (kept (start_in x b + i) (start_in x b + i) slack) None }
 {
     [
-        entry(x, a, i, b, i, gradient),
-        entry(x, b, i, b, i, slack),
+        entry(kkt.index, a, i, b, i, gradient),
+        entry(kkt.index, b, i, b, i, slack),
         None,
     ]
 }
 
 // A column of branch e with one entry at each of its ends, and one more.
 fn ends_column(
-    wiring: &[u32],
-    c: Counts,
-    x: KktIdx,
+    kkt: &Kkt<'_>,
     b: Block,
     e: usize,
     from: f64,
@@ -57,65 +50,47 @@ fn ends_column(
     a: Block,
     own: f64,
 ) -> [Option<Triplet>; 3]
-    requires wired { Wired c wiring.now }
-    requires narrow { Narrow x }
-    requires e_lt_branches { e < c.branches }
-    ensures { result ≡ three (kept (start_in x Va + wire c wiring.now BrFrom e) (start_in x b + e) from) (kept (start_in x Va + wire c wiring.now BrTo e) (start_in x b + e) to) (kept (start_in x a + e) (start_in x b + e) own) }
+    requires { e < kkt.now.grid.plan.counts.branches }
+    ensures { let x = kkt.now.index in let c = kkt.now.grid.plan.counts in let w = kkt.now.grid.plan.wiring.now in result ≡ three (kept (start_in x Va + wire c w BrFrom e) (start_in x b + e) from) (kept (start_in x Va + wire c w BrTo e) (start_in x b + e) to) (kept (start_in x a + e) (start_in x b + e) own) }
 {
-    let p = word(wiring, c, Part::BrFrom, e);
-    let q = word(wiring, c, Part::BrTo, e);
+    let p = kkt.grid.word(Part::BrFrom, e);
+    let q = kkt.grid.word(Part::BrTo, e);
     [
-        entry(x, Block::Va, p, b, e, from),
-        entry(x, Block::Va, q, b, e, to),
-        entry(x, a, e, b, e, own),
+        entry(kkt.index, Block::Va, p, b, e, from),
+        entry(kkt.index, Block::Va, q, b, e, to),
+        entry(kkt.index, a, e, b, e, own),
     ]
 }
 
 // f columns: line-bound stationarity and flow definition.
-fn flow_column(
-    wiring: &[u32],
-    readings: &[f64],
-    sheet: &[f64],
-    c: Counts,
-    x: KktIdx,
-    e: usize,
-) -> [Option<Triplet>; 3]
-    requires lent { Lent c wiring.now readings.now sheet.now x }
-    requires e_lt_branches { e < c.branches }
-    ensures { result ≡ triple (item_in c readings.now sheet.now x) (flow_column e) }
+fn flow_column(kkt: &Kkt<'_>, e: usize) -> [Option<Triplet>; 3]
+    requires { e < kkt.now.grid.plan.counts.branches }
+    ensures { result ≡ triple (item_at kkt.now) (flow_column e) }
 {
-    let lower = solved_at(sheet, c, x.pieces, Entry::LamLb, e);
-    let upper = solved_at(sheet, c, x.pieces, Entry::LamUb, e);
+    let lower = kkt.value(Entry::LamLb, e);
+    let upper = kkt.value(Entry::LamUb, e);
     [
-        entry(x, Block::LamLb, e, Block::Flow, e, lower),
-        entry(x, Block::LamUb, e, Block::Flow, e, -upper),
-        entry(x, Block::NuFlow, e, Block::Flow, e, 1.0),
+        entry(kkt.index, Block::LamLb, e, Block::Flow, e, lower),
+        entry(kkt.index, Block::LamUb, e, Block::Flow, e, -upper),
+        entry(kkt.index, Block::NuFlow, e, Block::Flow, e, 1.0),
     ]
 }
 
 // psh columns: shedding-bound stationarity (a fixed bus has a unit) and power balance. The bus's state
 // is found once for both multipliers.
-fn psh_column(
-    wiring: &[u32],
-    readings: &[f64],
-    sheet: &[f64],
-    c: Counts,
-    x: KktIdx,
-    i: usize,
-) -> [Option<Triplet>; 3]
-    requires lent { Lent c wiring.now readings.now sheet.now x }
-    requires i_lt_buses { i < c.buses }
-    ensures { result ≡ triple (item_in c readings.now sheet.now x) (psh_column wiring.now i) }
+fn psh_column(kkt: &Kkt<'_>, i: usize) -> [Option<Triplet>; 3]
+    requires { i < kkt.now.grid.plan.counts.buses }
+    ensures { result ≡ triple (item_at kkt.now) (psh_column kkt.now.grid.plan.wiring.now i) }
 {
-    let fixed = is_fixed_zero_shed(wiring, readings, c, i);
-    let cap = shed_cap_at(wiring, readings, c, i);
-    let shed = solved_at(sheet, c, x.pieces, Entry::Psh, i);
-    let lower = solved_at(sheet, c, x.pieces, Entry::MuLb, i);
-    let upper = solved_at(sheet, c, x.pieces, Entry::MuUb, i);
+    let fixed = is_fixed_zero_shed(&kkt.grid.plan, i);
+    let cap = shed_cap_at(&kkt.grid.plan, i);
+    let shed = kkt.value(Entry::Psh, i);
+    let lower = kkt.value(Entry::MuLb, i);
+    let upper = kkt.value(Entry::MuUb, i);
     let state = bus_state(cap, shed);
     [
         entry(
-            x,
+            kkt.index,
             Block::MuLb,
             i,
             Block::Psh,
@@ -123,14 +98,14 @@ fn psh_column(
             if_fixed(fixed, 1.0, by_state(state, lower - upper, lower, 0.0, 0.0)),
         ),
         entry(
-            x,
+            kkt.index,
             Block::MuUb,
             i,
             Block::Psh,
             i,
             if_fixed(fixed, 0.0, -by_state(state, 0.0, 0.0, upper, 0.0)),
         ),
-        entry(x, Block::NuBal, i, Block::Psh, i, 1.0),
+        entry(kkt.index, Block::NuBal, i, Block::Psh, i, 1.0),
     ]
 }
 
@@ -153,148 +128,38 @@ fn if_fixed(fixed: bool, a: f64, b: f64) -> f64
     if fixed { a } else { b }
 }
 
-// lambda (line-bound) columns.
-fn lam_lb_column(
-    wiring: &[u32],
-    readings: &[f64],
-    sheet: &[f64],
-    c: Counts,
-    x: KktIdx,
-    e: usize,
-) -> [Option<Triplet>; 3]
-    requires lent { Lent c wiring.now readings.now sheet.now x }
-    requires e_lt_branches { e < c.branches }
-    ensures { result ≡ triple (item_in c readings.now sheet.now x) (lam_lb_column e) }
-{
-    let slack = solved_at(sheet, c, x.pieces, Entry::Flow, e)
-        + reading(readings, c, Field::Fmax, e);
-    bound_column(x, Block::Flow, Block::LamLb, e, -1.0, slack)
-}
-
-fn lam_ub_column(
-    wiring: &[u32],
-    readings: &[f64],
-    sheet: &[f64],
-    c: Counts,
-    x: KktIdx,
-    e: usize,
-) -> [Option<Triplet>; 3]
-    requires lent { Lent c wiring.now readings.now sheet.now x }
-    requires e_lt_branches { e < c.branches }
-    ensures { result ≡ triple (item_in c readings.now sheet.now x) (lam_ub_column e) }
-{
-    let slack = reading(readings, c, Field::Fmax, e)
-        - solved_at(sheet, c, x.pieces, Entry::Flow, e);
-    bound_column(x, Block::Flow, Block::LamUb, e, 1.0, slack)
-}
-
 // gamma (phase-angle-difference) columns.
-fn gamma_lb_column(
-    wiring: &[u32],
-    readings: &[f64],
-    sheet: &[f64],
-    c: Counts,
-    x: KktIdx,
-    e: usize,
-) -> [Option<Triplet>; 3]
-    requires lent { Lent c wiring.now readings.now sheet.now x }
-    requires e_lt_branches { e < c.branches }
-    ensures { result ≡ triple (item_in c readings.now sheet.now x) (gamma_lb_column c wiring.now e) }
+fn gamma_lb_column(kkt: &Kkt<'_>, e: usize) -> [Option<Triplet>; 3]
+    requires { e < kkt.now.grid.plan.counts.branches }
+    ensures { result ≡ triple (item_at kkt.now) (gamma_lb_column kkt.now.grid.plan.counts kkt.now.grid.plan.wiring.now e) }
 {
-    let sw = reading(readings, c, Field::Sw, e);
-    let slack = sw
-        * (angle(wiring, sheet, c, x.pieces, e) - reading(readings, c, Field::Angmin, e));
-    ends_column(
-        wiring,
-        c,
-        x,
-        Block::GammaLb,
-        e,
-        -sw,
-        sw,
-        Block::GammaLb,
-        slack,
-    )
+    let sw = kkt.grid.reading(Field::Sw, e);
+    let plan = kkt.grid.plan;
+    let across = angle(plan.wiring, kkt.sheet, plan.counts, kkt.index.pieces, e);
+    let slack = sw * (across - kkt.grid.reading(Field::Angmin, e));
+    ends_column(kkt, Block::GammaLb, e, -sw, sw, Block::GammaLb, slack)
 }
 
-fn gamma_ub_column(
-    wiring: &[u32],
-    readings: &[f64],
-    sheet: &[f64],
-    c: Counts,
-    x: KktIdx,
-    e: usize,
-) -> [Option<Triplet>; 3]
-    requires lent { Lent c wiring.now readings.now sheet.now x }
-    requires e_lt_branches { e < c.branches }
-    ensures { result ≡ triple (item_in c readings.now sheet.now x) (gamma_ub_column c wiring.now e) }
+fn gamma_ub_column(kkt: &Kkt<'_>, e: usize) -> [Option<Triplet>; 3]
+    requires { e < kkt.now.grid.plan.counts.branches }
+    ensures { result ≡ triple (item_at kkt.now) (gamma_ub_column kkt.now.grid.plan.counts kkt.now.grid.plan.wiring.now e) }
 {
-    let sw = reading(readings, c, Field::Sw, e);
-    let slack = sw
-        * (reading(readings, c, Field::Angmax, e) - angle(wiring, sheet, c, x.pieces, e));
-    ends_column(
-        wiring,
-        c,
-        x,
-        Block::GammaUb,
-        e,
-        sw,
-        -sw,
-        Block::GammaUb,
-        slack,
-    )
-}
-
-// rho (gen-bound) columns.
-fn rho_lb_column(
-    wiring: &[u32],
-    readings: &[f64],
-    sheet: &[f64],
-    c: Counts,
-    x: KktIdx,
-    j: usize,
-) -> [Option<Triplet>; 3]
-    requires lent { Lent c wiring.now readings.now sheet.now x }
-    requires j_lt_generators { j < c.generators }
-    ensures { result ≡ triple (item_in c readings.now sheet.now x) (rho_lb_column j) }
-{
-    let slack = solved_at(sheet, c, x.pieces, Entry::Pg, j) - reading(readings, c, Field::Gmin, j);
-    bound_column(x, Block::Pg, Block::RhoLb, j, -1.0, slack)
-}
-
-fn rho_ub_column(
-    wiring: &[u32],
-    readings: &[f64],
-    sheet: &[f64],
-    c: Counts,
-    x: KktIdx,
-    j: usize,
-) -> [Option<Triplet>; 3]
-    requires lent { Lent c wiring.now readings.now sheet.now x }
-    requires j_lt_generators { j < c.generators }
-    ensures { result ≡ triple (item_in c readings.now sheet.now x) (rho_ub_column j) }
-{
-    let slack = reading(readings, c, Field::Gmax, j) - solved_at(sheet, c, x.pieces, Entry::Pg, j);
-    bound_column(x, Block::Pg, Block::RhoUb, j, 1.0, slack)
+    let sw = kkt.grid.reading(Field::Sw, e);
+    let plan = kkt.grid.plan;
+    let across = angle(plan.wiring, kkt.sheet, plan.counts, kkt.index.pieces, e);
+    let slack = sw * (kkt.grid.reading(Field::Angmax, e) - across);
+    ends_column(kkt, Block::GammaUb, e, sw, -sw, Block::GammaUb, slack)
 }
 
 // mu (shedding-bound) columns.
-fn mu_lb_column(
-    wiring: &[u32],
-    readings: &[f64],
-    sheet: &[f64],
-    c: Counts,
-    x: KktIdx,
-    i: usize,
-) -> [Option<Triplet>; 3]
-    requires lent { Lent c wiring.now readings.now sheet.now x }
-    requires i_lt_buses { i < c.buses }
-    ensures { result ≡ triple (item_in c readings.now sheet.now x) (mu_lb_column wiring.now i) }
+fn mu_lb_column(kkt: &Kkt<'_>, i: usize) -> [Option<Triplet>; 3]
+    requires { i < kkt.now.grid.plan.counts.buses }
+    ensures { result ≡ triple (item_at kkt.now) (mu_lb_column kkt.now.grid.plan.wiring.now i) }
 {
-    let fixed = is_fixed_zero_shed(wiring, readings, c, i);
-    let shed = shed_of(wiring, readings, sheet, c, x.pieces, i);
+    let fixed = is_fixed_zero_shed(&kkt.grid.plan, i);
+    let shed = shed_of(&kkt.grid.plan, kkt.sheet, kkt.index.pieces, i);
     bound_column(
-        x,
+        kkt,
         Block::Psh,
         Block::MuLb,
         i,
@@ -303,23 +168,15 @@ fn mu_lb_column(
     )
 }
 
-fn mu_ub_column(
-    wiring: &[u32],
-    readings: &[f64],
-    sheet: &[f64],
-    c: Counts,
-    x: KktIdx,
-    i: usize,
-) -> [Option<Triplet>; 3]
-    requires lent { Lent c wiring.now readings.now sheet.now x }
-    requires i_lt_buses { i < c.buses }
-    ensures { result ≡ triple (item_in c readings.now sheet.now x) (mu_ub_column wiring.now i) }
+fn mu_ub_column(kkt: &Kkt<'_>, i: usize) -> [Option<Triplet>; 3]
+    requires { i < kkt.now.grid.plan.counts.buses }
+    ensures { result ≡ triple (item_at kkt.now) (mu_ub_column kkt.now.grid.plan.wiring.now i) }
 {
-    let fixed = is_fixed_zero_shed(wiring, readings, c, i);
-    let slack = shed_cap_at(wiring, readings, c, i)
-        - shed_of(wiring, readings, sheet, c, x.pieces, i);
+    let fixed = is_fixed_zero_shed(&kkt.grid.plan, i);
+    let slack = shed_cap_at(&kkt.grid.plan, i)
+        - shed_of(&kkt.grid.plan, kkt.sheet, kkt.index.pieces, i);
     bound_column(
-        x,
+        kkt,
         Block::Psh,
         Block::MuUb,
         i,
@@ -329,48 +186,26 @@ fn mu_ub_column(
 }
 
 // nu_flow columns: (W*A)' (theta), -I (f).
-fn nu_flow_column(
-    wiring: &[u32],
-    readings: &[f64],
-    sheet: &[f64],
-    c: Counts,
-    x: KktIdx,
-    e: usize,
-) -> [Option<Triplet>; 3]
-    requires lent { Lent c wiring.now readings.now sheet.now x }
-    requires e_lt_branches { e < c.branches }
-    ensures { result ≡ triple (item_in c readings.now sheet.now x) (nu_flow_column c wiring.now e) }
+fn nu_flow_column(kkt: &Kkt<'_>, e: usize) -> [Option<Triplet>; 3]
+    requires { e < kkt.now.grid.plan.counts.branches }
+    ensures { result ≡ triple (item_at kkt.now) (nu_flow_column kkt.now.grid.plan.counts kkt.now.grid.plan.wiring.now e) }
 {
-    let b = reading(readings, c, Field::Susceptance, e);
-    let sw = reading(readings, c, Field::Sw, e);
-    ends_column(
-        wiring,
-        c,
-        x,
-        Block::NuFlow,
-        e,
-        -b * sw,
-        b * sw,
-        Block::Flow,
-        -1.0,
-    )
+    let b = kkt.grid.reading(Field::Susceptance, e);
+    let sw = kkt.grid.reading(Field::Sw, e);
+    ends_column(kkt, Block::NuFlow, e, -b * sw, b * sw, Block::Flow, -1.0)
 }
 
 // eta columns: one reference indicator for each place.
-fn eta_column(
-    wiring: &[u32],
-    readings: &[f64],
-    sheet: &[f64],
-    c: Counts,
-    x: KktIdx,
-    k: usize,
-) -> [Option<Triplet>; 3]
-    requires lent { Lent c wiring.now readings.now sheet.now x }
-    requires k_lt_references { k < c.references }
-    ensures { result ≡ triple (item_in c readings.now sheet.now x) (eta_column c wiring.now k) }
+fn eta_column(kkt: &Kkt<'_>, k: usize) -> [Option<Triplet>; 3]
+    requires { k < kkt.now.grid.plan.counts.references }
+    ensures { result ≡ triple (item_at kkt.now) (eta_column kkt.now.grid.plan.counts kkt.now.grid.plan.wiring.now k) }
 {
-    let bus = word(wiring, c, Part::References, k);
-    [entry(x, Block::Va, bus, Block::Eta, k, 1.0), None, None]
+    let bus = kkt.grid.word(Part::References, k);
+    [
+        entry(kkt.index, Block::Va, bus, Block::Eta, k, 1.0),
+        None,
+        None,
+    ]
 }
 
 // How many columns a block has, where they are put one by one.
@@ -378,91 +213,63 @@ pub fn turns_of(c: Counts, b: Block) -> usize
     ensures { result ≡ turns_of c b }
 {
     match b {
-        Block::Va => c.buses,
-        Block::Pg => c.generators,
-        Block::Flow => c.branches,
-        Block::Psh => c.buses,
-        Block::Cost => c.generators,
-        Block::LamLb => c.branches,
-        Block::LamUb => c.branches,
-        Block::GammaLb => c.branches,
-        Block::GammaUb => c.branches,
-        Block::RhoLb => c.generators,
-        Block::RhoUb => c.generators,
-        Block::MuLb => c.buses,
-        Block::MuUb => c.buses,
-        Block::Segments => c.generators,
+        Block::Va | Block::Psh | Block::MuLb | Block::MuUb | Block::NuBal => c.buses,
+        Block::Pg | Block::Cost | Block::RhoLb | Block::RhoUb | Block::Segments => c.generators,
+        Block::Flow
+        | Block::LamLb
+        | Block::LamUb
+        | Block::GammaLb
+        | Block::GammaUb
+        | Block::NuFlow => c.branches,
         Block::Linear => c.rows,
-        Block::NuBal => c.buses,
-        Block::NuFlow => c.branches,
         Block::Eta => c.references,
     }
 }
 
-// Column i of a block whose columns are short.
-fn short_column(
-    wiring: &[u32],
-    readings: &[f64],
-    sheet: &[f64],
-    c: Counts,
-    x: KktIdx,
-    b: Block,
-    i: usize,
-) -> [Option<Triplet>; 3]
-    requires lent { Lent c wiring.now readings.now sheet.now x }
-    requires b_value { work_of b ≡ Short }
-    requires i_bound { i < turns_of c b }
-    ensures { (s : Site) → s.counts ≡ c → s.wiring ≡ wiring.now → result ≡ triple (item_in c readings.now sheet.now x) (columns s b i) }
+// Column i of a block whose columns are short: a bound's on flow or dispatch by what is left to the bound.
+fn short_column(kkt: &Kkt<'_>, b: Block, i: usize) -> [Option<Triplet>; 3]
+    requires b_value { IsTrue (is_short b) }
+    requires i_bound { i < turns_of kkt.now.grid.plan.counts b }
+    ensures { (s : Site) → s.counts ≡ kkt.now.grid.plan.counts → s.wiring ≡ kkt.now.grid.plan.wiring.now → result ≡ triple (item_at kkt.now) (columns s b i) }
 {
     match b {
-        Block::Flow => flow_column(wiring, readings, sheet, c, x, i),
-        Block::Psh => psh_column(wiring, readings, sheet, c, x, i),
-        Block::LamLb => lam_lb_column(wiring, readings, sheet, c, x, i),
-        Block::LamUb => lam_ub_column(wiring, readings, sheet, c, x, i),
-        Block::GammaLb => gamma_lb_column(wiring, readings, sheet, c, x, i),
-        Block::GammaUb => gamma_ub_column(wiring, readings, sheet, c, x, i),
-        Block::RhoLb => rho_lb_column(wiring, readings, sheet, c, x, i),
-        Block::RhoUb => rho_ub_column(wiring, readings, sheet, c, x, i),
-        Block::MuLb => mu_lb_column(wiring, readings, sheet, c, x, i),
-        Block::MuUb => mu_ub_column(wiring, readings, sheet, c, x, i),
-        Block::NuFlow => nu_flow_column(wiring, readings, sheet, c, x, i),
-        Block::Eta => eta_column(wiring, readings, sheet, c, x, i),
+        Block::Flow => flow_column(kkt, i),
+        Block::Psh => psh_column(kkt, i),
+        Block::LamLb => {
+            let slack = kkt.value(Entry::Flow, i) + kkt.grid.reading(Field::Fmax, i);
+            bound_column(kkt, Block::Flow, Block::LamLb, i, -1.0, slack)
+        }
+        Block::LamUb => {
+            let slack = kkt.grid.reading(Field::Fmax, i) - kkt.value(Entry::Flow, i);
+            bound_column(kkt, Block::Flow, Block::LamUb, i, 1.0, slack)
+        }
+        Block::GammaLb => gamma_lb_column(kkt, i),
+        Block::GammaUb => gamma_ub_column(kkt, i),
+        Block::RhoLb => {
+            let slack = kkt.value(Entry::Pg, i) - kkt.grid.reading(Field::Gmin, i);
+            bound_column(kkt, Block::Pg, Block::RhoLb, i, -1.0, slack)
+        }
+        Block::RhoUb => {
+            let slack = kkt.grid.reading(Field::Gmax, i) - kkt.value(Entry::Pg, i);
+            bound_column(kkt, Block::Pg, Block::RhoUb, i, 1.0, slack)
+        }
+        Block::MuLb => mu_lb_column(kkt, i),
+        Block::MuUb => mu_ub_column(kkt, i),
+        Block::NuFlow => nu_flow_column(kkt, i),
+        Block::Eta => eta_column(kkt, i),
         _ => unreachable!(),
     }
 }
 
 // Every column of a block whose columns are short.
-pub fn put_short(
-    wiring: &[u32],
-    readings: &[f64],
-    sheet: &[f64],
-    c: Counts,
-    x: KktIdx,
-    b: Block,
-    rows: &mut [u32],
-    cols: &mut [u32],
-    values: &mut [f64],
-    limit: usize,
-    at: usize,
-) -> usize
-    requires lent { Lent c wiring.now readings.now sheet.now x }
-    requires b_value { work_of b ≡ Short }
-    requires at_bound { at < 0x800_0000 }
-    requires room { Room limit (held rows cols values at) }
-    ensures puts { (s : Site) → s.counts ≡ c → s.wiring ≡ wiring.now → Puts limit (emitted (start_in x) (reading c readings.now) (solved c x.pieces sheet.now) (each (turns_of c b) (columns s b))) (held rows.entry cols.entry values.entry at) (held rows.exit cols.exit values.exit result) }
-    ensures most { result ≤ at + 0x1_0000 }
+pub fn put_short(kkt: &Kkt<'_>, b: Block, sink: &mut Sink<'_>)
+    requires b_value { IsTrue (is_short b) }
+    requires at_bound { sink.old.count < 0x800_0000 }
+    ensures puts { (s : Site) → s.counts ≡ kkt.now.grid.plan.counts → s.wiring ≡ kkt.now.grid.plan.wiring.now → Gains (emitted_at kkt.now (each (turns_of kkt.now.grid.plan.counts b) (columns s b))) sink.old sink.new }
+    ensures most { sink.new.count ≤ sink.old.count + 0x1_0000 }
 {
-    let to = turns_of(c, b);
-    let mut k = at;
+    let to = turns_of(kkt.grid.plan.counts, b);
     for i in 0..to {
-        k = put_all(
-            rows,
-            cols,
-            values,
-            limit,
-            k,
-            short_column(wiring, readings, sheet, c, x, b, i),
-        );
+        put_all(sink, short_column(kkt, b, i));
     }
-    k
 }

@@ -12,9 +12,11 @@ use lib.Dec.{eqb}
 use lib.Ieee.{Float, nan, neg, eq, of_bits}
 use Rattle.float64.specs.Values.{nought, add_at, sub_at}
 use Rattle.sequence.specs.Lists.{each, turns, some}
-use Rattle.sequence.specs.Sheets.{emit, Sheets, Puts}
+use Rattle.sequence.specs.declared.Sink.{Sink}
+use Rattle.sequence.specs.Sheets.{emit}
+use Rattle.sequence.specs.Sinks.{Gains}
 use Rattle.sequence.proofs.Lists.{each_same, each_skip, each_add, turns_same, turns_skip, or_none}
-use Rattle.sequence.proofs.Sheets.{then}
+use Rattle.sequence.proofs.Sinks.{then}
 use Rattle.network.specs.declared.Counts.{Counts}
 use Rattle.network.specs.declared.Part.TheVariants.{BrFrom, BrTo}
 use Rattle.network.specs.Layout.{wire, reading}
@@ -147,9 +149,9 @@ span_none true acc from col a b h = each_skip _ 0 b (omega arith) (λ i p q. rw 
 span_none false acc from col a b h = each_skip _ 0 b (omega arith) (λ i p q. rw (h i q))
 
 -- one block more
-pub block_more : {limit : ℕ} {S₀ S₁ S₂ : Sheets} (less : Bool) (acc : List Float) (from col n q b : ℕ) → 16 * q ≤ n → b ≡ min (n - 16 * q) 16
-    → Puts limit (each (min (16 * q) n) (λ i. emit (sum_item less acc from col i))) S₀ S₁ → Puts limit (span_of less acc from col (16 * q) b) S₁ S₂
-    → Puts limit (each (min (16 * (q + 1)) n) (λ i. emit (sum_item less acc from col i))) S₀ S₂
+pub block_more : {S₀ S₁ S₂ : Sink} (less : Bool) (acc : List Float) (from col n q b : ℕ) → 16 * q ≤ n → b ≡ min (n - 16 * q) 16
+    → Gains (each (min (16 * q) n) (λ i. emit (sum_item less acc from col i))) S₀ S₁ → Gains (span_of less acc from col (16 * q) b) S₁ S₂
+    → Gains (each (min (16 * (q + 1)) n) (λ i. emit (sum_item less acc from col i))) S₀ S₂
 unfolding span_of
 block_more less acc from col n q b h e p s =
     let a : min (16 * q) n ≡ 16 * q = omega arith in
@@ -157,8 +159,8 @@ block_more less acc from col n q b h e p s =
     rw (z, each_add) (then (rw a at p) s)
 
 -- all blocks
-pub blocks_done : {limit : ℕ} {S₀ S₁ : Sheets} (less : Bool) (acc : List Float) (from col : ℕ) {m n : ℕ} → m ≡ n
-    → Puts limit (each m (λ i. emit (sum_item less acc from col i))) S₀ S₁ → Puts limit (span_of less acc from col 0 n) S₀ S₁
+pub blocks_done : {S₀ S₁ : Sink} (less : Bool) (acc : List Float) (from col : ℕ) {m n : ℕ} → m ≡ n
+    → Gains (each m (λ i. emit (sum_item less acc from col i))) S₀ S₁ → Gains (span_of less acc from col 0 n) S₀ S₁
 unfolding span_of
 blocks_done less acc from col {m} {n} e p =
     rw (each_same n (λ i. emit (sum_item less acc from col (0 + i))) (λ i. emit (sum_item less acc from col i)) (λ i l. rw zero-add)) (rw e at p)

@@ -4,11 +4,11 @@
 ghost use Rattle.std.specs.Prelude.{◌≡◌, false, ℕ, ◌+◌, ◌/◌, ◌<◌, ◌≤◌, length, get_or};
 ghost use Rattle.std.specs.Float.{nan};
 ghost use Rattle.float64.specs.Values.{nought};
-ghost use Rattle.sequence.specs.Sheets.{held, Puts, Room};
+ghost use Rattle.sequence.specs.Sinks.{Gains};
 ghost use Rattle.kkt.specs.Walks.{taken, sum_item, span_of};
 
 use kkt::kept;
-use sequence::{Triplet, put};
+use sequence::{Sink, Triplet};
 
 // A sum taken negatively, or as it is.
 pub fn taken(less: bool, v: f64) -> f64
@@ -26,70 +26,33 @@ fn sum_item(acc: &[f64], col: usize, i: usize) -> Option<Triplet>
 }
 
 // Sums a to a + b - 1, which are all +0 where they are not on.
-fn put_sum_span(
-    on: bool,
-    acc: &[f64],
-    col: usize,
-    a: usize,
-    b: usize,
-    rows: &mut [u32],
-    cols: &mut [u32],
-    values: &mut [f64],
-    limit: usize,
-    at: usize,
-) -> usize
+fn put_sum_span(on: bool, acc: &[f64], col: usize, a: usize, b: usize, sink: &mut Sink<'_>)
     requires b_in_bounds { (a + b ≤ length acc.now) × (a + b ≤ 256) × (col ≤ 256) }
     requires nan_value { on ≡ false → (i : ℕ) → i < b → get_or acc.now (a + i) nan ≡ nought }
-    requires at_bound { at < 0x1000_0000 }
-    requires room { Room limit (held rows cols values at) }
-    ensures puts { Puts limit (span_of false acc.now 0 col a b) (held rows.entry cols.entry values.entry at) (held rows.exit cols.exit values.exit result) }
-    ensures most { result ≤ at + b }
+    requires at_bound { sink.old.count < 0x1000_0000 }
+    ensures puts { Gains (span_of false acc.now 0 col a b) sink.old sink.new }
+    ensures most { sink.new.count ≤ sink.old.count + b }
 {
     if !on {
-        return at;
+        return;
     }
-    let mut k = at;
     for i in 0..b {
-        k = put(rows, cols, values, limit, k, sum_item(acc, col, a + i));
+        sink.put(sum_item(acc, col, a + i));
     }
-    k
 }
 
 // The first n sums, by blocks of 16: a block that is not marked has none other than +0.
-pub fn put_sums(
-    n: usize,
-    acc: &[f64],
-    hit: &[u32],
-    col: usize,
-    rows: &mut [u32],
-    cols: &mut [u32],
-    values: &mut [f64],
-    limit: usize,
-    at: usize,
-) -> usize
+// `acc` and `hit` stay single, as where they are written (`make_row` of susceptance).
+pub fn put_sums(n: usize, acc: &[f64], hit: &[u32], col: usize, sink: &mut Sink<'_>)
     requires n_bound { (n ≤ 256) × (n ≤ length acc.now) × (16 ≤ length hit.now) × (col ≤ 256) }
     requires by_index { (i : ℕ) → i < n → get_or hit.now (i / 16) 0 ≡ 0 → get_or acc.now i nan ≡ nought }
-    requires at_bound { at < 0x800_0000 }
-    requires room { Room limit (held rows cols values at) }
-    ensures puts { Puts limit (span_of false acc.now 0 col 0 n) (held rows.entry cols.entry values.entry at) (held rows.exit cols.exit values.exit result) }
-    ensures most { result ≤ at + n }
+    requires at_bound { sink.old.count < 0x800_0000 }
+    ensures puts { Gains (span_of false acc.now 0 col 0 n) sink.old sink.new }
+    ensures most { sink.new.count ≤ sink.old.count + n }
 {
-    let mut k = at;
     let blocks = (n + 15) / 16;
     for q in 0..blocks {
         let a = 16 * q;
-        k = put_sum_span(
-            hit[q] != 0,
-            acc,
-            col,
-            a,
-            (n - a).min(16),
-            rows,
-            cols,
-            values,
-            limit,
-            k,
-        );
+        put_sum_span(hit[q] != 0, acc, col, a, (n - a).min(16), sink);
     }
-    k
 }

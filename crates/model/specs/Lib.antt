@@ -3,3 +3,4 @@ pub mod Rows
 pub mod Quantities
 pub mod Kinds
 pub mod Calls
+pub mod Fills

@@ -1,6 +1,6 @@
 -- model/dc.rs's quantities by 01's rules for module 1: each operation rounded once, grouped as the Rust writes it; sums begin at +0.
 -- Main definitions: `shed_cap`, `flow_offset`, `phase`, `network_at`, `fixed_at`, `generator_cost`, `evaluate`. Assumes nothing.
-use Rattle.std.specs.Prelude.{ℕ, ◌+◌, Bool, true, cond, List, get_or, eqb, Float}
+use Rattle.std.specs.Prelude.{ℕ, ◌+◌, true, cond, List, get_or, eqb, Float}
 use Rattle.std.specs.Float.{nan, inf, binary64}
 use Rattle.std.specs.Float.Ieee.{add, sub, mul, lt}
 use Rattle.float64.specs.Values.{nought, max_zero, add_at, sub_at}

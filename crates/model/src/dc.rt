@@ -1,14 +1,14 @@
 // model/dc.rs's quantities as public calls. Each tests the whole network, answers 01's number and a
 // count, and fills the front of the sheet that it is lent; a refusal changes no word.
-ghost use Rattle.std.specs.Prelude.{◌≡◌, get_or, ◌&&◌, eqb, length, ℕ, ◌<◌, ◌≤◌, IfOk};
+ghost use Rattle.std.specs.Prelude.{◌≡◌, get_or, ◌&&◌, eqb, length, ◌<◌, ◌≤◌, IfOk};
 ghost use Rattle.sequence.specs.Answers.{first_of, number_of, answered};
 ghost use Rattle.float64.specs.Values.{sheet_limit};
 ghost use Rattle.sequence.specs.Sheets.{listed, lays_if, room};
-ghost use Rattle.network.specs.Layout.{ReadingsLaid};
-ghost use Rattle.network.specs.Numbers.{all_within, Wired};
+ghost use Rattle.network.specs.Numbers.{all_within};
 ghost use Rattle.network.specs.Sites.{network_in};
 ghost use Rattle.susceptance.specs.Susceptance.{susceptance_coo};
-ghost use Rattle.model.specs.Calls.{element_tests, shed_cap_call, flow_offset_call, generator_cost_call, evaluate_call, phase_call, network_call, fixed_call, kind_answered, row_kind_call, susceptance_call};
+ghost use Rattle.model.specs.Fills.{OfBus, of_network, FillsBuses, BusesAre};
+ghost use Rattle.model.specs.Calls.{bus_call, element_tests, shed_cap_call, flow_offset_call, generator_cost_call, evaluate_call, phase_call, network_call, fixed_call, kind_answered, row_kind_call, susceptance_call};
 
 use crate::RowKind;
 use crate::cost::generator_cost_at;
@@ -17,8 +17,8 @@ use crate::terms::evaluate_at;
 use crate::withdrawal::{fixed_into, flow_offset_at, network_into, phase_into, shed_cap_at};
 use float64::sheet_limit;
 use network::check::{all_within, is_raw};
-use network::{Counts, Lent};
-use sequence::{Answer, Refusal, room};
+use network::{Grid, Lent};
+use sequence::{Answer, Refusal, Sink, room};
 use susceptance::put_susceptance;
 
 // Numbers 5 and 7 of a call for one number: index i is below `count`, and the sheet has room for it.
@@ -36,40 +36,39 @@ fn accept_element(count: usize, i: usize, room: usize) -> Result<(), Refusal>
     }
 }
 
+// A value of every bus, which a call fills into the front of the sheet.
+fn fill_buses<F: FnOnce(&Grid<'_>, &mut [f64])>(lent: Lent<'_>, out: &mut [f64], fill: F) -> Answer
+    requires { FillsBuses (F.pre fill) }
+    ensures { (f : OfBus) → BusesAre (F.post fill) f → answered result out.new ≡ bus_call (network_in lent.entry) (of_network f (network_in lent.entry)) out.old }
+{
+    let site = lent.accept()?;
+    let buses = site.grid.plan.counts.buses;
+    if out.len() < buses {
+        return Err(Refusal::Short);
+    }
+    fill(&site.grid, out);
+    Ok(buses)
+}
+
 // The phase-shift withdrawal of every bus.
 pub fn phase_withdrawal(lent: Lent<'_>, out: &mut [f64]) -> Answer
     ensures { answered result out.new ≡ phase_call (network_in lent.entry) out.old }
 {
-    let site = lent.accept()?;
-    if out.len() < site.counts.buses {
-        return Err(Refusal::Short);
-    }
-    phase_into(site.wiring, site.readings, site.counts, out);
-    Ok(site.counts.buses)
+    fill_buses(lent, out, phase_into)
 }
 
 // The fixed withdrawal of every bus other than demand: shunt conductance and phase shift, less the HVDC injection.
 pub fn network_withdrawal(lent: Lent<'_>, out: &mut [f64]) -> Answer
     ensures { answered result out.new ≡ network_call (network_in lent.entry) out.old }
 {
-    let site = lent.accept()?;
-    if out.len() < site.counts.buses {
-        return Err(Refusal::Short);
-    }
-    network_into(site.wiring, site.readings, site.counts, out);
-    Ok(site.counts.buses)
+    fill_buses(lent, out, network_into)
 }
 
 // The fixed withdrawal of every bus: demand and the network withdrawal.
 pub fn current_fixed_withdrawal(lent: Lent<'_>, out: &mut [f64]) -> Answer
     ensures { answered result out.new ≡ fixed_call (network_in lent.entry) out.old }
 {
-    let site = lent.accept()?;
-    if out.len() < site.counts.buses {
-        return Err(Refusal::Short);
-    }
-    fixed_into(site.wiring, site.readings, site.counts, out);
-    Ok(site.counts.buses)
+    fill_buses(lent, out, fixed_into)
 }
 
 // The affine flow offset of a branch at its present status.
@@ -77,8 +76,8 @@ pub fn current_flow_offset(lent: Lent<'_>, branch: usize, out: &mut [f64]) -> An
     ensures { answered result out.new ≡ flow_offset_call (network_in lent.entry) branch out.old }
 {
     let site = lent.accept()?;
-    accept_element(site.counts.branches, branch, out.len())?;
-    out[0] = flow_offset_at(site.readings, site.counts, branch);
+    accept_element(site.grid.plan.counts.branches, branch, out.len())?;
+    out[0] = flow_offset_at(site.grid.plan.readings, site.grid.plan.counts, branch);
     Ok(1)
 }
 
@@ -87,8 +86,8 @@ pub fn shed_cap(lent: Lent<'_>, bus: usize, out: &mut [f64]) -> Answer
     ensures { answered result out.new ≡ shed_cap_call (network_in lent.entry) bus out.old }
 {
     let site = lent.accept()?;
-    accept_element(site.counts.buses, bus, out.len())?;
-    out[0] = shed_cap_at(site.wiring, site.readings, site.counts, bus);
+    accept_element(site.grid.plan.counts.buses, bus, out.len())?;
+    out[0] = shed_cap_at(&site.grid.plan, bus);
     Ok(1)
 }
 
@@ -97,8 +96,8 @@ pub fn generator_cost(lent: Lent<'_>, generator: usize, power: f64, out: &mut [f
     ensures { answered result out.new ≡ generator_cost_call (network_in lent.entry) generator power out.old }
 {
     let site = lent.accept_with(true, is_raw(power))?;
-    accept_element(site.counts.generators, generator, out.len())?;
-    out[0] = generator_cost_at(site.wiring, site.readings, site.counts, generator, power);
+    accept_element(site.grid.plan.counts.generators, generator, out.len())?;
+    out[0] = generator_cost_at(&site.grid, generator, power);
     Ok(1)
 }
 
@@ -140,10 +139,10 @@ pub fn evaluate(lent: Lent<'_>, row: usize, f: &[f64], pg: &[f64], out: &mut [f6
     let sizes = flows_and_powers(lent.wiring, f, pg);
     let values = both_within(f, pg);
     let site = lent.accept_with(sizes, values)?;
-    accept_element(site.counts.rows, row, out.len())?;
+    accept_element(site.grid.plan.counts.rows, row, out.len())?;
     out[0] = evaluate_at(
-        site.wiring,
-        site.counts,
+        site.grid.plan.wiring,
+        site.grid.plan.counts,
         site.term_index,
         site.term_coefficient,
         row,
@@ -158,59 +157,75 @@ pub fn row_kind(lent: Lent<'_>, row: usize) -> Result<RowKind, Refusal>
     ensures { kind_answered result ≡ row_kind_call (network_in lent.entry) row }
 {
     let site = lent.accept()?;
-    if site.counts.rows <= row {
+    if site.grid.plan.counts.rows <= row {
         return Err(Refusal::Element);
     }
-    Ok(row_limits(site.wiring, site.readings, site.counts, row).kind())
+    Ok(row_limits(&site.grid.plan, row).kind())
 }
 
 // The susceptance list where the sheets, of which the shortest holds `cap`, hold it: counted first,
 // then written.
+// Here and in `lay_susceptance` the sheets stay single: a sink is made of them, with its limit.
 fn lay_counted(
-    wiring: &[u32],
-    readings: &[f64],
-    c: Counts,
+    grid: &Grid<'_>,
     rows: &mut [u32],
     cols: &mut [u32],
     values: &mut [f64],
     cap: usize,
 ) -> Answer
-    requires wired { Wired c wiring.now }
-    requires readings_laid { ReadingsLaid c readings.now }
-    requires cap_value { cap ≡ room rows.old cols.old values.old }
-    ensures { listed result rows.new cols.new values.new ≡ lays_if (susceptance_coo c wiring.now readings.now) rows.old cols.old values.old }
+    requires { cap ≡ room rows.old cols.old values.old }
+    ensures { listed result rows.new cols.new values.new ≡ lays_if (susceptance_coo grid.now.plan.counts grid.now.plan.wiring.now grid.now.plan.readings.now) rows.old cols.old values.old }
 {
-    let count = put_susceptance(wiring, readings, c, rows, cols, values, 0);
+    let mut counted = Sink {
+        rows: &mut *rows,
+        cols: &mut *cols,
+        values: &mut *values,
+        limit: 0,
+        count: 0,
+    };
+    put_susceptance(grid, &mut counted);
+    let count = counted.count;
     if cap < count {
         return Err(Refusal::Short);
     }
-    let done = put_susceptance(wiring, readings, c, rows, cols, values, count);
-    Ok(done)
+    let mut written = Sink {
+        rows,
+        cols,
+        values,
+        limit: count,
+        count: 0,
+    };
+    put_susceptance(grid, &mut written);
+    Ok(written.count)
 }
 
 // The same in one pass where the sheets hold four triplets for each branch, which is the most.
 fn lay_susceptance(
-    wiring: &[u32],
-    readings: &[f64],
-    c: Counts,
+    grid: &Grid<'_>,
     rows: &mut [u32],
     cols: &mut [u32],
     values: &mut [f64],
 ) -> Answer
-    requires wired { Wired c wiring.now }
-    requires readings_laid { ReadingsLaid c readings.now }
-    ensures { listed result rows.new cols.new values.new ≡ lays_if (susceptance_coo c wiring.now readings.now) rows.old cols.old values.old }
+    ensures { listed result rows.new cols.new values.new ≡ lays_if (susceptance_coo grid.now.plan.counts grid.now.plan.wiring.now grid.now.plan.readings.now) rows.old cols.old values.old }
 {
     let cap = room(rows, cols, values);
-    if 4 * c.branches <= cap {
-        let most = 4 * c.branches;
-        let count = put_susceptance(wiring, readings, c, rows, cols, values, most);
-        return Ok(count);
+    let most = 4 * grid.plan.counts.branches;
+    if cap < most {
+        return lay_counted(grid, rows, cols, values, cap);
     }
-    lay_counted(wiring, readings, c, rows, cols, values, cap)
+    let mut sink = Sink {
+        rows,
+        cols,
+        values,
+        limit: most,
+        count: 0,
+    };
+    put_susceptance(grid, &mut sink);
+    Ok(sink.count)
 }
 
 // The susceptance matrix as triplets, by row, then column.
+// The sheets stay single, as C lends them.
 pub fn susceptance_coo(
     lent: Lent<'_>,
     rows: &mut [u32],
@@ -220,5 +235,5 @@ pub fn susceptance_coo(
     ensures { listed result rows.new cols.new values.new ≡ susceptance_call (network_in lent.entry) rows.old cols.old values.old }
 {
     let site = lent.accept()?;
-    lay_susceptance(site.wiring, site.readings, site.counts, rows, cols, values)
+    lay_susceptance(&site.grid, rows, cols, values)
 }

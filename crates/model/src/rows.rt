@@ -1,14 +1,13 @@
 // A linear row's limits, read from its mask and its two slots.
 ghost use Rattle.std.specs.Prelude.{◌≡◌, ◌<◌};
-ghost use Rattle.network.specs.Layout.{WiringLaid, ReadingsLaid};
 ghost use Rattle.model.specs.Kinds.{kind_number};
 ghost use Rattle.model.specs.Rows.{masked_limits, row_limits, is_equality, kind_of};
 
 use crate::{RowKind, RowLimits};
-use network::layout::{reading, word};
-use network::{Counts, Field, Part};
+use network::{Field, Part, Plan};
 
-// The limits that a mask names: 1 the upper, 2 the lower, 3 both.
+// The limits that a mask names: 1 the upper, 2 the lower, 3 both. The mask is a word of the network, not an enum's
+// number, and two values go with it.
 pub fn limits_of(mask: usize, upper: f64, lower: f64) -> RowLimits
     ensures { result ≡ masked_limits mask upper lower }
 {
@@ -27,15 +26,13 @@ pub fn limits_of(mask: usize, upper: f64, lower: f64) -> RowLimits
 }
 
 // The limits of row q.
-pub fn row_limits(wiring: &[u32], readings: &[f64], c: Counts, q: usize) -> RowLimits
-    requires wiring_laid { WiringLaid c wiring.now }
-    requires readings_laid { ReadingsLaid c readings.now }
-    requires q_lt_rows { q < c.rows }
-    ensures { result ≡ row_limits c wiring.now readings.now q }
+pub fn row_limits(plan: &Plan<'_>, q: usize) -> RowLimits
+    requires { q < plan.now.counts.rows }
+    ensures { result ≡ row_limits plan.now.counts plan.now.wiring.now plan.now.readings.now q }
 {
-    let mask = word(wiring, c, Part::Masks, q);
-    let upper = reading(readings, c, Field::UpperMw, q);
-    let lower = reading(readings, c, Field::LowerMw, q);
+    let mask = plan.word(Part::Masks, q);
+    let upper = plan.reading(Field::UpperMw, q);
+    let lower = plan.reading(Field::LowerMw, q);
     limits_of(mask, upper, lower)
 }
 

@@ -8,6 +8,7 @@ use network::layout::word;
 use network::{Counts, Part};
 
 // Where row q's terms begin.
+// It asks for the wiring alone: a grid asks for the readings too, and a `Wiring` would be made for the call.
 pub fn term_start(wiring: &[u32], c: Counts, q: usize) -> usize
     requires wired { Wired c wiring.now }
     requires q_le_rows { q ≤ c.rows }
@@ -43,6 +44,7 @@ fn term_sum(
 }
 
 // The value of row q at flows f and dispatch pg.
+// It asks for the wiring and the terms alone: a site would ask for the readings too.
 pub fn evaluate_at(
     wiring: &[u32],
     c: Counts,

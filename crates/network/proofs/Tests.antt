@@ -1,20 +1,23 @@
 -- The tests of numbers 1 to 3, one by one, and what their passing says. Main result: `accepted`. Assumes nothing.
-use mathlib.Core.Path.{◌≡◌, refl, sym, ap, ◌∙◌, subst}
-use mathlib.Core.Bool.{Bool, true, false, cond, not, ◌&&◌}
+use mathlib.Core.Path.{◌≡◌, refl, ap, ◌∙◌}
+use mathlib.Core.Bool.{Bool, true, false, ◌&&◌, and-true}
 use mathlib.Core.List.{List}
-use Prim.Native.Nat.{ℕ, ◌+◌, ◌*◌, ◌≤◌, ◌<◌}
+use Prim.Native.Nat.{ℕ, zero, suc, ◌+◌, ◌*◌, ◌≤◌, ◌<◌}
 use native.Mathlib.Omega.{arith}
-use lib.Dec.{T, eqb, ltb, leb, lit<}
-use lib.ListN.{length, get_or}
+use lib.Dec.{eqb, ltb, leb, lit<}
+use lib.ListN.{length, get_or, take}
+use lib.Seq.{take-suc}
+use Rattle.std.specs.List.{list_all}
+use Rattle.std.proofs.lemmas.List.Folds.{list_all-append}
 use borrow.Author.Tests.{eq-eqb, ne_eqb, eqb-true, ltb-true, leb-true}
 use Rattle.sequence.specs.Lists.{before, every}
 use Rattle.sequence.specs.Answers.{first_of}
 use Rattle.sequence.proofs.Lists.{and_left, and_right, every_at}
 use Rattle.network.specs.declared.Counts.{Counts}
-use Rattle.network.specs.declared.Part.TheVariants.{BrFrom, BrTo, GenBus, References, Masks, FlowTerms, GenerationTerms}
+use Rattle.network.specs.declared.Part.TheVariants.{FlowTerms, GenerationTerms}
 use Rattle.network.specs.declared.Part.{Part}
 use Rattle.network.specs.Layout.{counts_of, allow_shed, objective, part_size, wiring_length, readings_length, wire, segments_at, row_terms, term_start, Few, WiringLaid, ReadingsLaid}
-use Rattle.network.specs.Numbers.{Network, few, lengths_hold, sums_hold, sizes_hold, limited, limited_at, part_limit, part_holds, flow_terms_hold, generation_terms_hold, terms_hold, wiring_holds, readings_hold, network_tests, Wired, Termed, Accepted}
+use Rattle.network.specs.Numbers.{Network, few, lengths_hold, sums_hold, sizes_hold, limited, limited_at, part_limit, part_holds, flow_terms_hold, generation_terms_hold, terms_hold, wiring_holds, readings_hold, network_tests, Accepted}
 
 -- ---- lengths, as the code adds them up
 
@@ -36,6 +39,14 @@ module _ (c : Counts) (N : Network) where
 
   pub readings_other : (length N.readings ≡ readings_sum → ⊥) → eqb (length N.readings) (readings_length c) ≡ false
   readings_other h = ne_eqb (length N.readings) (readings_length c) (λ e. h (omega arith))
+
+-- ---- each of a list's first words
+
+module _ {A : Type 0} (test : A → Bool) (xs : List A) (d : A) where
+  pub all_first : (n : ℕ) → n ≤ length xs → list_all test (take n xs) ≡ every (λ t. test (get_or xs t d)) n
+  unfolding every
+  all_first zero h = refl
+  all_first (suc n) h = ap (list_all test) (take-suc xs n d (omega arith)) ∙ rw (list_all-append, all_first n (omega arith), and-true)
 
 -- ---- 1: what passing says
 

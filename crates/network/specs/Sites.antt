@@ -11,9 +11,9 @@ network_in l = lent l.wiring l.readings l.term_index l.term_coefficient
 
 -- the site has the network's slices and counts, and the network is accepted
 pub record SiteOf (l : Lent) (s : Site) : Type 0 where
-  pub counts : s.counts ≡ counts_of l.wiring.now
-  pub wiring : s.wiring.now ≡ l.wiring.now
-  pub readings : s.readings.now ≡ l.readings.now
+  pub counts : s.grid.plan.counts ≡ counts_of l.wiring.now
+  pub wiring : s.grid.plan.wiring.now ≡ l.wiring.now
+  pub readings : s.grid.plan.readings.now ≡ l.readings.now
   pub term_index : s.term_index.now ≡ l.term_index.now
   pub term_coefficient : s.term_coefficient.now ≡ l.term_coefficient.now
-  pub accepted : Accepted (network_in l) s.counts
+  pub accepted : Accepted (network_in l) s.grid.plan.counts

@@ -1,6 +1,6 @@
 // Where each word of the wiring and each reading stands.
-ghost use Rattle.std.specs.Prelude.{◌≡◌, ◌+◌, ◌*◌, ◌<◌, ◌≤◌, length, get_or};
-ghost use Rattle.network.specs.Layout.{counts_of, Few, WiringLaid, ReadingsLaid, part_size, part_start, wire, size, field_start, reading, place};
+ghost use Rattle.std.specs.Prelude.{◌≡◌, ◌+◌, ◌*◌, ◌<◌, ◌≤◌, length};
+ghost use Rattle.network.specs.Layout.{counts_of, Few, WiringLaid, ReadingsLaid, part_size, part_start, wire, size, field_start, reading};
 
 use crate::{Counts, Field, Part};
 
@@ -67,6 +67,7 @@ pub fn part_start(c: Counts, p: Part) -> usize
 }
 
 // Word i of a part.
+// It stays on slices: `Wiring` and `Plan`, of which one has no readings, read their words by it.
 pub fn word(wiring: &[u32], c: Counts, p: Part, i: usize) -> usize
     requires wiring_laid { WiringLaid c wiring.now }
     requires i_bound { i < part_size c p }
@@ -139,6 +140,7 @@ pub fn field_start(c: Counts, f: Field) -> usize
 }
 
 // Reading i of a field.
+// It asks for the readings alone: `Plan`, which has the wiring too, reads by it.
 pub fn reading(readings: &[f64], c: Counts, f: Field, i: usize) -> f64
     requires readings_laid { ReadingsLaid c readings.now }
     requires i_bound { i < size c f }

@@ -3,9 +3,10 @@
 
 pub mod check;
 pub mod layout;
+pub mod plans;
 pub mod site;
 
-pub use site::{Lent, Site};
+pub use site::{Grid, Lent, Plan, Site, Wiring};
 
 // n, m, k, R, S, q, T.
 #[derive(Clone, Copy)]

@@ -1,9 +1,9 @@
 -- Active limits are numbered 0, 1, 2, .. in order, each number met once; a linear row holds as many places as it has rows, one after the other.
--- Main results: `rank_below`, `rank_apart`, `rank_met`, `rank_few`; `piece_rank_lem`; `equality_apart`, `equality_met`, `inequality_apart`, `inequality_met`. Assumes nothing.
+-- Main results: `rank_below`, `rank_apart`, `rank_met`, `rank_few`; `piece_rank_lem`; `equality_few`, `equality_apart`, `equality_met`, `inequality_few`, `inequality_apart`, `inequality_met`. Assumes nothing.
 use mathlib.Core.Path.{◌≡◌, refl, sym, subst}
 use mathlib.Core.Bool.{Bool, true, false, cond, not}
 use mathlib.Core.List.{List}
-use Prim.Native.Nat.{ℕ, zero, suc, ◌+◌, ◌-◌, ◌≤◌, ◌<◌}
+use Prim.Native.Nat.{ℕ, zero, suc, ◌+◌, ◌*◌, ◌-◌, ◌≤◌, ◌<◌}
 use native.Mathlib.Omega.{arith}
 use native.Mathlib.Decide.{dec_lt}
 use lib.Dec.{T, eqb}
@@ -16,6 +16,7 @@ use Rattle.network.specs.Layout.{segments_at}
 use Rattle.model.specs.Rows.{row_limits}
 use Rattle.solution.specs.Sheet.{piece, piece_rank}
 use Rattle.opf_layout.specs.Layout.{active_rank, flagged, equalities, inequalities, equality_rank, inequality_rank}
+use Rattle.opf_layout.proofs.Counting.{equalities_few, inequalities_few}
 
 -- ---- widths that lie one after the other
 
@@ -83,6 +84,10 @@ rank_met on n k h = go (width_met (λ i. cond (on i) 1 0) n k h)
         let q = owned (on p.index) p.at p.inside in
         record { index = p.index; below = p.below; active = q.0; is = omega (arith, p.is, q.1) }
 
+-- 1 for an active one, 0 for another
+abbrev pub one_of : (ℕ → Bool) → ℕ → ℕ
+one_of on i = cond (on i) 1 0
+
 one_few : (b : Bool) → cond b 1 0 ≤ 1
 one_few true = omega arith
 one_few false = omega arith
@@ -112,6 +117,15 @@ module _ (c : Counts) (w : List ℕ) (r : List Float) where
 
   abbrev pub limit : ℕ → ℕ
   limit q = inequalities (row_limits c w r q)
+
+  -- no more than the rows have at most
+  pub equality_few : (n : ℕ) → equality_rank c w r n ≤ n
+  unfolding equality_rank
+  equality_few n = omega (arith, before_bound equal 1 n (λ q h. equalities_few (row_limits c w r q)))
+
+  pub inequality_few : (n : ℕ) → inequality_rank c w r n ≤ 2 * n
+  unfolding inequality_rank
+  inequality_few n = omega (arith, before_bound limit 2 n (λ q h. inequalities_few (row_limits c w r q)))
 
   -- a place of row q lies before the rows after it, and below the count of all
   pub equality_below : (q n t : ℕ) → q < n → t < equal q → equality_rank c w r q + t < equality_rank c w r n

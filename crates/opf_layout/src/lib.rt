@@ -2,14 +2,14 @@
 #![tactic(auto)]
 
 ghost use Rattle.std.specs.Prelude.{◌≡◌, cond, ◌*◌, ◌≤◌, ◌<◌};
-ghost use Rattle.network.specs.Layout.{WiringLaid, ReadingsLaid, part_size};
+ghost use Rattle.network.specs.Layout.{WiringLaid, part_size};
 ghost use Rattle.opf_layout.specs.Layout.{active_rank, flagged, sheds, equalities, inequalities, equality_rank, inequality_rank, active_of, Bounded, Placed, Narrow, column_in, row_in};
 
 use model::RowLimits;
 use model::rows::row_limits;
 use model::withdrawal::shed_cap_at;
 use network::layout::{part_size, word};
-use network::{Counts, Part};
+use network::{Counts, Part, Plan};
 use solution::piece_count;
 
 // The columns of the program, in order.
@@ -90,41 +90,33 @@ pub fn one_if(on: bool) -> usize
     if on { 1 } else { 0 }
 }
 
-// How many flags of a part are set.
+// How many flags of a part are set. It takes the wiring alone: a plan would ask for readings too.
+// It asks for the wiring alone: a plan asks for the readings too, and a `Wiring` would be made for the call.
 pub fn count_flags(wiring: &[u32], c: Counts, p: Part) -> usize
     requires { WiringLaid c wiring.now }
     ensures { (result ≡ active_rank (flagged c wiring.now p) (part_size c p)) × (result ≤ part_size c p) }
 {
-    let mut count = 0;
-    let to = part_size(c, p);
-    for i in 0..to {
-        count += one_if(word(wiring, c, p, i) != 0);
-    }
-    count
+    (0..part_size(c, p))
+        .map(|i| one_if(word(wiring, c, p, i) != 0))
+        .sum()
 }
 
 // Whether bus i has a shed column: its cap is above 0.
-pub fn sheds_at(wiring: &[u32], readings: &[f64], c: Counts, i: usize) -> bool
-    requires wiring_laid { WiringLaid c wiring.now }
-    requires readings_laid { ReadingsLaid c readings.now }
-    requires i_lt_buses { i < c.buses }
-    ensures { result ≡ sheds c wiring.now readings.now i }
+pub fn sheds_at(plan: &Plan<'_>, i: usize) -> bool
+    requires { i < plan.now.counts.buses }
+    ensures { result ≡ sheds plan.now.counts plan.now.wiring.now plan.now.readings.now i }
 {
-    shed_cap_at(wiring, readings, c, i) > 0.0
+    shed_cap_at(plan, i) > 0.0
 }
 
-// How many buses have a shed column.
-pub fn count_sheds(wiring: &[u32], readings: &[f64], c: Counts) -> usize
-    requires wiring_laid { WiringLaid c wiring.now }
-    requires readings_laid { ReadingsLaid c readings.now }
-    ensures { (result ≡ active_rank (sheds c wiring.now readings.now) c.buses) × (result ≤ c.buses) }
+// How many buses have a shed column. This count and the two of the linear rows stay single: each is one line over its
+// own test, which a function for the three would take as a closure.
+pub fn count_sheds(plan: &Plan<'_>) -> usize
+    ensures { (result ≡ active_rank (sheds plan.now.counts plan.now.wiring.now plan.now.readings.now) plan.now.counts.buses) × (result ≤ plan.now.counts.buses) }
 {
-    let mut count = 0;
-    let to = c.buses;
-    for i in 0..to {
-        count += one_if(sheds_at(wiring, readings, c, i));
-    }
-    count
+    (0..plan.counts.buses)
+        .map(|i| one_if(sheds_at(plan, i)))
+        .sum()
 }
 
 // How many rows a linear row has among the equalities.
@@ -149,47 +141,35 @@ pub fn inequalities_of(limits: RowLimits) -> usize
 }
 
 // How many equalities the linear rows have.
-pub fn count_equalities(wiring: &[u32], readings: &[f64], c: Counts) -> usize
-    requires wiring_laid { WiringLaid c wiring.now }
-    requires readings_laid { ReadingsLaid c readings.now }
-    ensures { (result ≡ equality_rank c wiring.now readings.now c.rows) × (result ≤ c.rows) }
+pub fn count_equalities(plan: &Plan<'_>) -> usize
+    ensures { (result ≡ equality_rank plan.now.counts plan.now.wiring.now plan.now.readings.now plan.now.counts.rows) × (result ≤ plan.now.counts.rows) }
 {
-    let mut count = 0;
-    let to = c.rows;
-    for q in 0..to {
-        count += equalities_of(row_limits(wiring, readings, c, q));
-    }
-    count
+    (0..plan.counts.rows)
+        .map(|q| equalities_of(row_limits(plan, q)))
+        .sum()
 }
 
 // How many inequalities they have.
-pub fn count_inequalities(wiring: &[u32], readings: &[f64], c: Counts) -> usize
-    requires wiring_laid { WiringLaid c wiring.now }
-    requires readings_laid { ReadingsLaid c readings.now }
-    ensures { (result ≡ inequality_rank c wiring.now readings.now c.rows) × (result ≤ 2 * c.rows) }
+pub fn count_inequalities(plan: &Plan<'_>) -> usize
+    ensures { (result ≡ inequality_rank plan.now.counts plan.now.wiring.now plan.now.readings.now plan.now.counts.rows) × (result ≤ 2 * plan.now.counts.rows) }
 {
-    let mut count = 0;
-    let to = c.rows;
-    for q in 0..to {
-        count += inequalities_of(row_limits(wiring, readings, c, q));
-    }
-    count
+    (0..plan.counts.rows)
+        .map(|q| inequalities_of(row_limits(plan, q)))
+        .sum()
 }
 
 // All that is active.
-pub fn active_of(wiring: &[u32], readings: &[f64], c: Counts) -> Active
-    requires wiring_laid { WiringLaid c wiring.now }
-    requires readings_laid { ReadingsLaid c readings.now }
-    ensures { (result ≡ active_of c wiring.now readings.now) × Bounded c result }
+pub fn active_of(plan: &Plan<'_>) -> Active
+    ensures { (result ≡ active_of plan.now.counts plan.now.wiring.now plan.now.readings.now) × Bounded plan.now.counts result }
 {
     Active {
-        lines: count_flags(wiring, c, Part::ThermalFlags),
-        generators: count_flags(wiring, c, Part::GeneratorFlags),
-        sheds: count_sheds(wiring, readings, c),
-        phases: count_flags(wiring, c, Part::AngleFlags),
-        pieces: piece_count(wiring, c),
-        equalities: count_equalities(wiring, readings, c),
-        inequalities: count_inequalities(wiring, readings, c),
+        lines: count_flags(plan.wiring, plan.counts, Part::ThermalFlags),
+        generators: count_flags(plan.wiring, plan.counts, Part::GeneratorFlags),
+        sheds: count_sheds(plan),
+        phases: count_flags(plan.wiring, plan.counts, Part::AngleFlags),
+        pieces: piece_count(plan.wiring, plan.counts),
+        equalities: count_equalities(plan),
+        inequalities: count_inequalities(plan),
     }
 }
 

@@ -16,17 +16,19 @@ use Rattle.sequence.specs.Sheets.{Laid as Triplets, laid, lays}
 use Rattle.sequence.proofs.Answers.{no_test, passed, holding}
 use Rattle.sequence.proofs.Lists.{or_none}
 use Rattle.network.specs.declared.Counts.{Counts}
-use Rattle.network.specs.Numbers.{Network, network_tests}
+use Rattle.network.specs.Layout.{ReadingsLaid}
+use Rattle.network.specs.Numbers.{Network, network_tests, Wired, Termed}
 use Rattle.model.proofs.Calls.{network_stands, network_passes}
 use Rattle.opf_layout.specs.declared.OpfLayout.{OpfLayout}
-use Rattle.opf_layout.specs.Layout.{active_of, cones}
+use Rattle.opf_layout.specs.Layout.{active_of, cones, Placed, Bounded}
 use Rattle.opf_assembly.specs.Assembly.{p_triplets, a_triplets, q_sheet, b_sheet}
 use Rattle.opf_assembly.proofs.Lengths.{q_long, b_long}
 use Rattle.opf_sides.proofs.Cones.{cones_are}
 use Rattle.opf_sides.specs.Walks.{cones_in}
 use Rattle.opf_problem.specs.declared.Rooms.{Rooms}
 use Rattle.opf_problem.specs.Calls.{Parts, Program, program, short_program, assembled, assembles, parts_of, assemble_number, assemble_call}
-use Rattle.opf_problem.specs.Walks.{Laid, any_short}
+use Rattle.opf_problem.specs.declared.draft.Draft.{Draft}
+use Rattle.opf_problem.specs.Walks.{any_short}
 
 -- ---- the returns
 
@@ -57,7 +59,18 @@ pub record Fits (c : Counts) (w : List ℕ) (r : List Float) (ti : List ℕ) (tc
   pub b_fits : length (b_sheet c w r) ≤ room.b
   pub cones_fit : length (cones c (active_of c w r)) ≤ room.cones
 
-module _ {c : Counts} {w : List ℕ} {r : List Float} {ti : List ℕ} {tc : List Float} {lay : OpfLayout} (h : Laid c w r ti tc lay) (room : Rooms) where
+-- what a draft says
+pub record Drafted (c : Counts) (w : List ℕ) (r : List Float) (ti : List ℕ) (tc : List Float) (x : OpfLayout) : Type 0 where
+  pub wired : Wired c w
+  pub read : ReadingsLaid c r
+  pub termed : Termed c w ti tc
+  pub placed : Placed c (active_of c w r) x
+  pub bounded : Bounded c (active_of c w r)
+
+pub drafted : (d : Draft) → Drafted d.site.grid.plan.counts d.site.grid.plan.wiring.now d.site.grid.plan.readings.now d.site.term_index.now d.site.term_coefficient.now d.layout
+drafted d = record { wired = d.site.grid.wired; read = d.site.grid.plan.readings_laid; termed = d.site.termed; placed = d.placed; bounded = d.bounded }
+
+module _ {c : Counts} {w : List ℕ} {r : List Float} {ti : List ℕ} {tc : List Float} {lay : OpfLayout} (h : Drafted c w r ti tc lay) (room : Rooms) where
   abbrev p? : Bool
   p? = ltb room.p (length (p_triplets c w r))
 

@@ -6,16 +6,17 @@ ghost use Rattle.sequence.specs.Lists.{front};
 ghost use Rattle.sequence.specs.Sheets.{laid, lays, room};
 ghost use Rattle.network.specs.Layout.{Few};
 ghost use Rattle.network.specs.Sites.{network_in};
-ghost use Rattle.opf_layout.specs.Layout.{active_of, cones};
-ghost use Rattle.opf_assembly.specs.Assembly.{p_triplets, a_triplets, q_sheet, b_sheet};
-ghost use Rattle.opf_problem.specs.Calls.{program, assembled, assembled_by, assembles, parts_at, assemble_call};
-ghost use Rattle.opf_problem.specs.Walks.{Laid, any_short, most_a};
+ghost use Rattle.opf_problem.specs.Calls.{program, assembled, assembled_by, assembles, assemble_call};
+ghost use Rattle.opf_problem.specs.Walks.{most_a, parts_in, short_at};
 
+pub mod draft;
+
+pub use draft::Draft;
 use network::{Counts, Lent};
 use opf_layout::{OpfLayout, active_of};
 use opf_matrix::{put_a, put_p};
 use opf_sides::{cone_count, put_b, put_cones, put_q};
-use sequence::{Refusal, room};
+use sequence::{Refusal, Sink, room};
 
 // How many triplets of A and of P were written.
 #[derive(Clone, Copy, Debug, PartialEq, Eq)]
@@ -35,50 +36,34 @@ pub struct Rooms {
 }
 
 // How many triplets A has.
-fn count_a(
-    wiring: &[u32],
-    readings: &[f64],
-    term_index: &[u32],
-    term_coefficient: &[f64],
-    c: Counts,
-    lay: OpfLayout,
-) -> usize
-    requires { Laid c wiring.now readings.now term_index.now term_coefficient.now lay }
-    ensures { result ≡ length (a_triplets c wiring.now readings.now term_index.now term_coefficient.now) }
+fn count_a(draft: &Draft<'_>) -> usize
+    ensures { result ≡ length (parts_in draft.now).a }
 {
-    let mut rows = [0u32; 1];
-    let mut cols = [0u32; 1];
-    let mut values = [0.0; 1];
-    put_a(
-        wiring,
-        readings,
-        term_index,
-        term_coefficient,
-        c,
-        lay,
-        &mut rows,
-        &mut cols,
-        &mut values,
-        0,
-    )
+    let mut sink = Sink {
+        rows: &mut [],
+        cols: &mut [],
+        values: &mut [],
+        limit: 0,
+        count: 0,
+    };
+    put_a(&draft.site, draft.layout, &mut sink);
+    sink.count
 }
 
 // How many P has.
-fn count_p(
-    wiring: &[u32],
-    readings: &[f64],
-    term_index: &[u32],
-    term_coefficient: &[f64],
-    c: Counts,
-    lay: OpfLayout,
-) -> usize
-    requires { Laid c wiring.now readings.now term_index.now term_coefficient.now lay }
-    ensures { result ≡ length (p_triplets c wiring.now readings.now) }
+fn count_p(draft: &Draft<'_>) -> usize
+    ensures { result ≡ length (parts_in draft.now).p }
 {
-    let mut rows = [0u32; 1];
-    let mut cols = [0u32; 1];
-    let mut values = [0.0; 1];
-    put_p(readings, c, lay, &mut rows, &mut cols, &mut values, 0)
+    let mut sink = Sink {
+        rows: &mut [],
+        cols: &mut [],
+        values: &mut [],
+        limit: 0,
+        count: 0,
+    };
+    let plan = draft.site.grid.plan;
+    put_p(plan.readings, plan.counts, draft.layout, &mut sink);
+    sink.count
 }
 
 // The most triplets that A can have.
@@ -90,169 +75,95 @@ fn most_a(c: Counts) -> usize
 }
 
 // Whether A's triplets have no room; they are counted only where the most that there can be have none.
-fn a_is_short(
-    wiring: &[u32],
-    readings: &[f64],
-    term_index: &[u32],
-    term_coefficient: &[f64],
-    c: Counts,
-    lay: OpfLayout,
-    room: usize,
-) -> bool
-    requires { Laid c wiring.now readings.now term_index.now term_coefficient.now lay }
-    ensures { result ≡ ltb room (length (a_triplets c wiring.now readings.now term_index.now term_coefficient.now)) }
+fn a_is_short(draft: &Draft<'_>, room: usize) -> bool
+    ensures { result ≡ ltb room (length (parts_in draft.now).a) }
 {
-    if most_a(c) <= room {
+    if most_a(draft.site.grid.plan.counts) <= room {
         return false;
     }
-    room < count_a(wiring, readings, term_index, term_coefficient, c, lay)
+    room < count_a(draft)
 }
 
 // Whether P's have none.
-fn p_is_short(
-    wiring: &[u32],
-    readings: &[f64],
-    term_index: &[u32],
-    term_coefficient: &[f64],
-    c: Counts,
-    lay: OpfLayout,
-    room: usize,
-) -> bool
-    requires { Laid c wiring.now readings.now term_index.now term_coefficient.now lay }
-    ensures { result ≡ ltb room (length (p_triplets c wiring.now readings.now)) }
+fn p_is_short(draft: &Draft<'_>, room: usize) -> bool
+    ensures { result ≡ ltb room (length (parts_in draft.now).p) }
 {
-    if c.generators <= room {
+    if draft.site.grid.plan.counts.generators <= room {
         return false;
     }
-    room < count_p(wiring, readings, term_index, term_coefficient, c, lay)
+    room < count_p(draft)
 }
 
 // Whether a sheet is shorter than its result.
-fn is_short(
-    wiring: &[u32],
-    readings: &[f64],
-    term_index: &[u32],
-    term_coefficient: &[f64],
-    c: Counts,
-    lay: OpfLayout,
-    rooms: Rooms,
-) -> bool
-    requires { Laid c wiring.now readings.now term_index.now term_coefficient.now lay }
-    ensures { result ≡ any_short c wiring.now readings.now term_index.now term_coefficient.now rooms }
+fn is_short(draft: &Draft<'_>, rooms: Rooms) -> bool
+    ensures { result ≡ short_at draft.now rooms }
 {
-    if rooms.q < lay.nvar {
+    if rooms.q < draft.layout.nvar {
         return true;
     }
-    if rooms.b < lay.ncon {
+    if rooms.b < draft.layout.ncon {
         return true;
     }
-    if rooms.cones < cone_count(lay) {
+    if rooms.cones < cone_count(draft.layout) {
         return true;
     }
-    if p_is_short(
-        wiring,
-        readings,
-        term_index,
-        term_coefficient,
-        c,
-        lay,
-        rooms.p,
-    ) {
+    if p_is_short(draft, rooms.p) {
         return true;
     }
-    a_is_short(
-        wiring,
-        readings,
-        term_index,
-        term_coefficient,
-        c,
-        lay,
-        rooms.a,
-    )
+    a_is_short(draft, rooms.a)
 }
 
 // P's triplets, which fit.
-fn lay_p(
-    wiring: &[u32],
-    readings: &[f64],
-    term_index: &[u32],
-    term_coefficient: &[f64],
-    c: Counts,
-    lay: OpfLayout,
-    rows: &mut [u32],
-    cols: &mut [u32],
-    values: &mut [f64],
-) -> usize
-    requires laid { Laid c wiring.now readings.now term_index.now term_coefficient.now lay }
-    requires readings_len_bound { length (p_triplets c wiring.now readings.now) ≤ room rows.old cols.old values.old }
-    ensures { laid 0 result rows.new cols.new values.new ≡ lays 0 (p_triplets c wiring.now readings.now) rows.old cols.old values.old }
+// Here, in `lay_a` and in `lay_program` the sheets stay single: a sink is made of each three, with its limit.
+fn lay_p(draft: &Draft<'_>, rows: &mut [u32], cols: &mut [u32], values: &mut [f64]) -> usize
+    requires { length (parts_in draft.now).p ≤ room rows.old cols.old values.old }
+    ensures { laid 0 result rows.new cols.new values.new ≡ lays 0 (parts_in draft.now).p rows.old cols.old values.old }
 {
     let limit = room(rows, cols, values);
-    put_p(readings, c, lay, rows, cols, values, limit)
-}
-
-// A's triplets, which fit.
-fn lay_a(
-    wiring: &[u32],
-    readings: &[f64],
-    term_index: &[u32],
-    term_coefficient: &[f64],
-    c: Counts,
-    lay: OpfLayout,
-    rows: &mut [u32],
-    cols: &mut [u32],
-    values: &mut [f64],
-) -> usize
-    requires laid { Laid c wiring.now readings.now term_index.now term_coefficient.now lay }
-    requires term_coefficient_len_bound { length (a_triplets c wiring.now readings.now term_index.now term_coefficient.now) ≤ room rows.old cols.old values.old }
-    ensures { laid 0 result rows.new cols.new values.new ≡ lays 0 (a_triplets c wiring.now readings.now term_index.now term_coefficient.now) rows.old cols.old values.old }
-{
-    let limit = room(rows, cols, values);
-    put_a(
-        wiring,
-        readings,
-        term_index,
-        term_coefficient,
-        c,
-        lay,
+    let mut sink = Sink {
         rows,
         cols,
         values,
         limit,
-    )
+        count: 0,
+    };
+    let plan = draft.site.grid.plan;
+    put_p(plan.readings, plan.counts, draft.layout, &mut sink);
+    sink.count
+}
+
+// A's triplets, which fit.
+fn lay_a(draft: &Draft<'_>, rows: &mut [u32], cols: &mut [u32], values: &mut [f64]) -> usize
+    requires { length (parts_in draft.now).a ≤ room rows.old cols.old values.old }
+    ensures { laid 0 result rows.new cols.new values.new ≡ lays 0 (parts_in draft.now).a rows.old cols.old values.old }
+{
+    let limit = room(rows, cols, values);
+    let mut sink = Sink {
+        rows,
+        cols,
+        values,
+        limit,
+        count: 0,
+    };
+    put_a(&draft.site, draft.layout, &mut sink);
+    sink.count
 }
 
 // q, b and the cones' sizes, which fit.
-fn lay_sides(
-    wiring: &[u32],
-    readings: &[f64],
-    term_index: &[u32],
-    term_coefficient: &[f64],
-    c: Counts,
-    lay: OpfLayout,
-    q: &mut [f64],
-    b: &mut [f64],
-    sizes: &mut [u32],
-)
-    requires laid { Laid c wiring.now readings.now term_index.now term_coefficient.now lay }
-    requires readings_in_bounds { (length (q_sheet c wiring.now readings.now) ≤ length q.old) × (length (b_sheet c wiring.now readings.now) ≤ length b.old) × (length (cones c (active_of c wiring.now readings.now)) ≤ length sizes.old) }
-    ensures q_after { q.new ≡ front (q_sheet c wiring.now readings.now) q.old }
-    ensures b_after { b.new ≡ front (b_sheet c wiring.now readings.now) b.old }
-    ensures sizes_after { sizes.new ≡ front (cones c (active_of c wiring.now readings.now)) sizes.old }
+fn lay_sides(draft: &Draft<'_>, q: &mut [f64], b: &mut [f64], sizes: &mut [u32])
+    requires { (length (parts_in draft.now).q ≤ length q.old) × (length (parts_in draft.now).b ≤ length b.old) × (length (parts_in draft.now).cones ≤ length sizes.old) }
+    ensures q_after { q.new ≡ front (parts_in draft.now).q q.old }
+    ensures b_after { b.new ≡ front (parts_in draft.now).b b.old }
+    ensures sizes_after { sizes.new ≡ front (parts_in draft.now).cones sizes.old }
 {
-    put_q(wiring, readings, c, q);
-    put_b(wiring, readings, c, b);
-    put_cones(lay, sizes);
+    put_q(&draft.site.grid.plan, q);
+    put_b(&draft.site.grid, b);
+    put_cones(draft.layout, sizes);
 }
 
 // Every part, which fit.
 fn lay_program(
-    wiring: &[u32],
-    readings: &[f64],
-    term_index: &[u32],
-    term_coefficient: &[f64],
-    c: Counts,
-    lay: OpfLayout,
+    draft: &Draft<'_>,
     p_rows: &mut [u32],
     p_cols: &mut [u32],
     p_values: &mut [f64],
@@ -263,48 +174,18 @@ fn lay_program(
     b: &mut [f64],
     sizes: &mut [u32],
 ) -> Written
-    requires laid { Laid c wiring.now readings.now term_index.now term_coefficient.now lay }
-    requires readings_len_bound { (length (p_triplets c wiring.now readings.now) ≤ room p_rows.old p_cols.old p_values.old) × (length (a_triplets c wiring.now readings.now term_index.now term_coefficient.now) ≤ room a_rows.old a_cols.old a_values.old) }
-    requires readings_in_bounds { (length (q_sheet c wiring.now readings.now) ≤ length q.old) × (length (b_sheet c wiring.now readings.now) ≤ length b.old) × (length (cones c (active_of c wiring.now readings.now)) ≤ length sizes.old) }
-    ensures { assembled 0 result.a result.p (program p_rows.new p_cols.new p_values.new a_rows.new a_cols.new a_values.new q.new b.new sizes.new) ≡ assembles 0 (parts_at c wiring.now readings.now term_index.now term_coefficient.now) (program p_rows.old p_cols.old p_values.old a_rows.old a_cols.old a_values.old q.old b.old sizes.old) }
+    requires readings_len_bound { (length (parts_in draft.now).p ≤ room p_rows.old p_cols.old p_values.old) × (length (parts_in draft.now).a ≤ room a_rows.old a_cols.old a_values.old) }
+    requires readings_in_bounds { (length (parts_in draft.now).q ≤ length q.old) × (length (parts_in draft.now).b ≤ length b.old) × (length (parts_in draft.now).cones ≤ length sizes.old) }
+    ensures { assembled 0 result.a result.p (program p_rows.new p_cols.new p_values.new a_rows.new a_cols.new a_values.new q.new b.new sizes.new) ≡ assembles 0 (parts_in draft.now) (program p_rows.old p_cols.old p_values.old a_rows.old a_cols.old a_values.old q.old b.old sizes.old) }
 {
-    let p = lay_p(
-        wiring,
-        readings,
-        term_index,
-        term_coefficient,
-        c,
-        lay,
-        p_rows,
-        p_cols,
-        p_values,
-    );
-    let a = lay_a(
-        wiring,
-        readings,
-        term_index,
-        term_coefficient,
-        c,
-        lay,
-        a_rows,
-        a_cols,
-        a_values,
-    );
-    lay_sides(
-        wiring,
-        readings,
-        term_index,
-        term_coefficient,
-        c,
-        lay,
-        q,
-        b,
-        sizes,
-    );
+    let p = lay_p(draft, p_rows, p_cols, p_values);
+    let a = lay_a(draft, a_rows, a_cols, a_values);
+    lay_sides(draft, q, b, sizes);
     Written { a, p }
 }
 
 // P's and A's triplets, q, b and the cones' sizes of a network; nothing is written where one does not fit.
+// The sheets stay single, as C lends them.
 pub fn assemble_opf(
     lent: Lent<'_>,
     p_rows: &mut [u32],
@@ -320,8 +201,8 @@ pub fn assemble_opf(
     ensures { assembled_by result (program p_rows.new p_cols.new p_values.new a_rows.new a_cols.new a_values.new q.new b.new sizes.new) ≡ assemble_call (network_in lent.entry) (program p_rows.old p_cols.old p_values.old a_rows.old a_cols.old a_values.old q.old b.old sizes.old) }
 {
     let site = lent.accept()?;
-    let c = site.counts;
-    let lay = OpfLayout::dc(c, active_of(site.wiring, site.readings, c));
+    let c = site.grid.plan.counts;
+    let layout = OpfLayout::dc(c, active_of(&site.grid.plan));
     let rooms = Rooms {
         p: room(p_rows, p_cols, p_values),
         a: room(a_rows, a_cols, a_values),
@@ -329,32 +210,11 @@ pub fn assemble_opf(
         b: b.len(),
         cones: sizes.len(),
     };
-    if is_short(
-        site.wiring,
-        site.readings,
-        site.term_index,
-        site.term_coefficient,
-        c,
-        lay,
-        rooms,
-    ) {
+    let draft = Draft { site, layout };
+    if is_short(&draft, rooms) {
         return Err(Refusal::Short);
     }
     Ok(lay_program(
-        site.wiring,
-        site.readings,
-        site.term_index,
-        site.term_coefficient,
-        c,
-        lay,
-        p_rows,
-        p_cols,
-        p_values,
-        a_rows,
-        a_cols,
-        a_values,
-        q,
-        b,
-        sizes,
+        &draft, p_rows, p_cols, p_values, a_rows, a_cols, a_values, q, b, sizes,
     ))
 }

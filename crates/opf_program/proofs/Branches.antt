@@ -9,7 +9,9 @@ use lib.Ieee.{Float, neg}
 use Rattle.float64.specs.Values.{one}
 use Rattle.sequence.specs.Lists.{when}
 use Rattle.sequence.specs.declared.Triplet.{Triplet}
-use Rattle.sequence.specs.Sheets.{emit, Sheets, Puts}
+use Rattle.sequence.specs.declared.Sink.{Sink}
+use Rattle.sequence.specs.Sheets.{emit}
+use Rattle.sequence.specs.Sinks.{Gains}
 use Rattle.network.specs.declared.Counts.{Counts}
 use Rattle.network.specs.declared.Part.TheVariants.{BrFrom, BrTo, ThermalFlags, AngleFlags}
 use Rattle.network.specs.declared.Field.TheVariants.{Sw}
@@ -31,11 +33,11 @@ abbrev pub pair : OpfLayout → Bool → OpfRow → ℕ → OpfColumn → ℕ �
 pair x on a i k j v b m n o u = emit (cell_item x on (cell a i k j v)) ++ emit (cell_item x on (cell b m n o u))
 
 module _ (x : OpfLayout) (c : Counts) (w : List ℕ) (r : List Float) where
-  pub own_put : {l : ℕ} {S₀ S₁ S₂ S₃ : Sheets} (e : ℕ) {v : Float} {fb tb : ℕ} → v ≡ eval (reading c r) blank (weight_of e) → fb ≡ wire c w BrFrom e → tb ≡ wire c w BrTo e
-      → Puts l (pair x true Balance fb Va fb (neg v) Balance tb Va tb (neg v)) S₀ S₁
-      → Puts l (pair x true Balance fb Va tb v Balance tb Va fb v) S₁ S₂
-      → Puts l (emit (cell_item x true (cell FlowRow e Flow e one)) ++ pair x true FlowRow e Va fb (neg v) FlowRow e Va tb v) S₂ S₃
-      → Puts l (written x c r (branch_own c w r e)) S₀ S₃
+  pub own_put : {S₀ S₁ S₂ S₃ : Sink} (e : ℕ) {v : Float} {fb tb : ℕ} → v ≡ eval (reading c r) blank (weight_of e) → fb ≡ wire c w BrFrom e → tb ≡ wire c w BrTo e
+      → Gains (pair x true Balance fb Va fb (neg v) Balance tb Va tb (neg v)) S₀ S₁
+      → Gains (pair x true Balance fb Va tb v Balance tb Va fb v) S₁ S₂
+      → Gains (emit (cell_item x true (cell FlowRow e Flow e one)) ++ pair x true FlowRow e Va fb (neg v) FlowRow e Va tb v) S₂ S₃
+      → Gains (written x c r (branch_own c w r e)) S₀ S₃
   own_put e ev ef et p q s =
       let f = wire c w BrFrom e in
       let t = wire c w BrTo e in
@@ -53,11 +55,11 @@ module _ (x : OpfLayout) (c : Counts) (w : List ℕ) (r : List Float) where
       (pair_put x R blank d g refl refl (rw (ev, ef, et) at q))
       (three_put x R blank h i j (rw (ev, ef, et) at s)))
 
-  pub phase_put : {l : ℕ} {S₀ S₁ S₂ : Sheets} (e : ℕ) {n rank fb tb : ℕ} {v : Float} → n ≡ wire c w AngleFlags e → v ≡ reading c r Sw e → fb ≡ wire c w BrFrom e → tb ≡ wire c w BrTo e
+  pub phase_put : {S₀ S₁ S₂ : Sink} (e : ℕ) {n rank fb tb : ℕ} {v : Float} → n ≡ wire c w AngleFlags e → v ≡ reading c r Sw e → fb ≡ wire c w BrFrom e → tb ≡ wire c w BrTo e
       → rank ≡ active_rank (flagged c w AngleFlags) e
-      → Puts l (pair x (not (eqb n 0)) PhaseUb rank Va fb v PhaseUb rank Va tb (neg v)) S₀ S₁
-      → Puts l (pair x (not (eqb n 0)) PhaseLb rank Va fb (neg v) PhaseLb rank Va tb v) S₁ S₂
-      → Puts l (written x c r (when (flagged c w AngleFlags e) (phase_entries c w r e))) S₀ S₂
+      → Gains (pair x (not (eqb n 0)) PhaseUb rank Va fb v PhaseUb rank Va tb (neg v)) S₀ S₁
+      → Gains (pair x (not (eqb n 0)) PhaseLb rank Va fb (neg v) PhaseLb rank Va tb v) S₁ S₂
+      → Gains (written x c r (when (flagged c w AngleFlags e) (phase_entries c w r e))) S₀ S₂
   phase_put e en ev ef et er p q =
       let f = wire c w BrFrom e in
       let t = wire c w BrTo e in
@@ -67,11 +69,11 @@ module _ (x : OpfLayout) (c : Counts) (w : List ℕ) (r : List Float) where
       (coefficient PhaseLb k Va f (minus (rd Sw e))) (coefficient PhaseLb k Va t (rd Sw e))
       (rw (en, ev, ef, et, er) at p) (rw (en, ev, ef, et, er) at q)
 
-  pub branch_put : {l : ℕ} {S₀ S₁ S₂ S₃ : Sheets} (e : ℕ) {n rank : ℕ} → n ≡ wire c w ThermalFlags e → rank ≡ active_rank (flagged c w ThermalFlags) e
-      → Puts l (written x c r (branch_own c w r e)) S₀ S₁
-      → Puts l (pair x (not (eqb n 0)) LineUb rank Flow e one LineLb rank Flow e (neg one)) S₁ S₂
-      → Puts l (written x c r (when (flagged c w AngleFlags e) (phase_entries c w r e))) S₂ S₃
-      → Puts l (written x c r (branch_entries c w r e)) S₀ S₃
+  pub branch_put : {S₀ S₁ S₂ S₃ : Sink} (e : ℕ) {n rank : ℕ} → n ≡ wire c w ThermalFlags e → rank ≡ active_rank (flagged c w ThermalFlags) e
+      → Gains (written x c r (branch_own c w r e)) S₀ S₁
+      → Gains (pair x (not (eqb n 0)) LineUb rank Flow e one LineLb rank Flow e (neg one)) S₁ S₂
+      → Gains (written x c r (when (flagged c w AngleFlags e) (phase_entries c w r e))) S₂ S₃
+      → Gains (written x c r (branch_entries c w r e)) S₀ S₃
   branch_put e en er p q s =
       let k = active_rank (flagged c w ThermalFlags) e in
       let sides = when (flagged c w ThermalFlags e) (two_sides LineUb LineLb k Flow e) in

@@ -1,5 +1,5 @@
--- Which slices are lent to what puts the program, and an entry of A by value.
--- Main definitions: `Lent`, `written`, `cell`, `cell_item`. Assumes nothing.
+-- The triplets of entries by the layout and the readings, and an entry of A by value.
+-- Main definitions: `written`, `written_at`, `cell`, `cell_item`. Assumes nothing.
 use Rattle.std.specs.Prelude.{ℕ, ◌+◌, ◌≤◌, Bool, not, ◌&&◌, List, Float, Option}
 use Rattle.std.specs.Float.Ieee.{eq}
 use Rattle.float64.specs.Values.{nought}
@@ -7,26 +7,24 @@ use Rattle.sequence.specs.declared.Triplet.{Triplet}
 use Rattle.sequence.specs.Sheets.{item}
 use Rattle.network.specs.declared.Counts.{Counts}
 use Rattle.network.specs.declared.Field.{Field}
-use Rattle.network.specs.Layout.{reading, ReadingsLaid}
-use Rattle.network.specs.Numbers.{Wired}
+use Rattle.network.specs.Layout.{reading}
 use Rattle.solution.specs.declared.Entry.{Entry}
 use Rattle.snapping.specs.Expr.{eval}
 use Rattle.opf_layout.specs.declared.OpfColumn.{OpfColumn}
 use Rattle.opf_layout.specs.declared.OpfRow.{OpfRow}
 use Rattle.opf_layout.specs.declared.OpfLayout.{OpfLayout}
-use Rattle.opf_layout.specs.Layout.{column_in, row_in, Narrow}
+use Rattle.opf_layout.specs.Layout.{column_in, row_in}
 use Rattle.opf_program.specs.declared.Cell.{Cell}
+use Rattle.opf_program.specs.declared.frame.Opf.{Opf}
 use Rattle.opf_assembly.specs.Assembly.{blank, Coefficient, triplets_by}
-
--- the slices are an accepted network's, and the layout is narrow
-pub record Lent (c : Counts) (w : List ℕ) (r : List Float) (x : OpfLayout) : Type 0 where
-  pub wired : Wired c w
-  pub read : ReadingsLaid c r
-  pub narrow : Narrow x
 
 -- entries by the layout and the readings
 abbrev pub written : OpfLayout → Counts → List Float → List Coefficient → List Triplet
 written x c r ks = triplets_by (row_in x) (column_in x) (reading c r) blank ks
+
+-- the same at a frame
+abbrev pub written_at : Opf → List Coefficient → List Triplet
+written_at o = written o.layout o.grid.plan.counts o.grid.plan.readings.now
 
 -- ---- an entry by value
 

@@ -8,12 +8,11 @@ ghost use Rattle.std.specs.Float.Ieee.{neg, sub};
 ghost use Rattle.float64.specs.Values.{nought};
 ghost use Rattle.sequence.specs.Lists.{made, front};
 ghost use Rattle.network.specs.declared.Field.TheVariants.{CShed};
-ghost use Rattle.network.specs.Layout.{WiringLaid, ReadingsLaid, part_size, reading};
-ghost use Rattle.network.specs.Numbers.{Wired, Termed};
+ghost use Rattle.network.specs.Layout.{part_size, reading};
 ghost use Rattle.model.specs.Rows.{row_limits};
 ghost use Rattle.model.specs.Quantities.{evaluate};
 ghost use Rattle.solution.specs.declared.Entry.TheVariants.{Va};
-ghost use Rattle.solution.specs.Sheet.{entries, size, pieces, sheet_length};
+ghost use Rattle.solution.specs.Sheet.{size, pieces, sheet_length};
 ghost use Rattle.opf_layout.specs.Layout.{active_rank, flagged, sheds, equalities, inequalities, equality_rank, inequality_rank, active_of, nvar, ncon, Bounded, Placed};
 ghost use Rattle.opf_readback.specs.Readback.{read_at, read_sheet};
 ghost use Rattle.opf_readback.specs.Walks.{block_at, turned_at, picked_at, lower_at, signed_of, cost_sum, objective_of, RawLaid};
@@ -22,8 +21,7 @@ use model::RowLimits;
 use model::cost::generator_cost_at;
 use model::rows::row_limits;
 use model::terms::evaluate_at;
-use network::layout::{reading, word};
-use network::{Counts, Field, Part};
+use network::{Field, Grid, Part, Plan, Site};
 use opf_layout::{OpfLayout, equalities_of, inequalities_of, one_if, sheds_at};
 use solution::{Entry, entry_size};
 
@@ -57,8 +55,7 @@ fn value_if(from: &[f64], place: usize, on: bool) -> f64
 
 // The words of a limit's block at the elements whose flag is set, 0 at the others.
 fn put_flagged(
-    wiring: &[u32],
-    c: Counts,
+    plan: &Plan<'_>,
     part: Part,
     count: usize,
     from: &[f64],
@@ -66,89 +63,58 @@ fn put_flagged(
     out: &mut [f64],
     at: usize,
 )
-    requires wiring_laid { WiringLaid c wiring.now }
-    requires count_value { (count ≡ part_size c part) × (count ≤ 1024) }
-    requires count_in_bounds { (start + active_rank (flagged c wiring.now part) count ≤ length from.now) × (start < 0x1_0000) }
+    requires count_value { (count ≡ part_size plan.now.counts part) × (count ≤ 1024) }
+    requires count_in_bounds { (start + active_rank (flagged plan.now.counts plan.now.wiring.now part) count ≤ length from.now) × (start < 0x1_0000) }
     requires count_in_bounds_2 { (at + count ≤ length out.old) × (at < 0x1_0000) }
-    ensures { out.new ≡ sets out.old at (made (picked_at (flagged c wiring.now part) from.now start) count) }
+    ensures { out.new ≡ sets out.old at (made (picked_at (flagged plan.now.counts plan.now.wiring.now part) from.now start) count) }
 {
     let mut k = 0;
     for i in 0..count {
-        let on = word(wiring, c, part, i) != 0;
+        let on = plan.word(part, i) != 0;
         out[at + i] = value_if(from, start + k, on);
         k += one_if(on);
     }
 }
 
 // The words of a block at the buses that have a shed column, 0 at the others.
-fn put_sheds(
-    wiring: &[u32],
-    readings: &[f64],
-    c: Counts,
-    from: &[f64],
-    start: usize,
-    out: &mut [f64],
-    at: usize,
-)
-    requires wiring_laid { WiringLaid c wiring.now }
-    requires readings_laid { ReadingsLaid c readings.now }
-    requires buses_in_bounds { (start + active_rank (sheds c wiring.now readings.now) c.buses ≤ length from.now) × (start < 0x1_0000) }
-    requires buses_in_bounds_2 { (at + c.buses ≤ length out.old) × (at < 0x1_0000) }
-    ensures { out.new ≡ sets out.old at (made (picked_at (sheds c wiring.now readings.now) from.now start) c.buses) }
+fn put_sheds(plan: &Plan<'_>, from: &[f64], start: usize, out: &mut [f64], at: usize)
+    requires buses_in_bounds { (start + active_rank (sheds plan.now.counts plan.now.wiring.now plan.now.readings.now) plan.now.counts.buses ≤ length from.now) × (start < 0x1_0000) }
+    requires buses_in_bounds_2 { (at + plan.now.counts.buses ≤ length out.old) × (at < 0x1_0000) }
+    ensures { out.new ≡ sets out.old at (made (picked_at (sheds plan.now.counts plan.now.wiring.now plan.now.readings.now) from.now start) plan.now.counts.buses) }
 {
-    let to = c.buses;
+    let to = plan.counts.buses;
     let mut k = 0;
     for i in 0..to {
-        let on = sheds_at(wiring, readings, c, i);
+        let on = sheds_at(plan, i);
         out[at + i] = value_if(from, start + k, on);
         k += one_if(on);
     }
 }
 
 // A shed's lower dual: its row's, and c_shed minus nu_bal where there is none.
-fn lower_of(
-    readings: &[f64],
-    c: Counts,
-    z: &[f64],
-    balance: usize,
-    place: usize,
-    on: bool,
-    i: usize,
-) -> f64
-    requires readings_laid { ReadingsLaid c readings.now }
-    requires i_lt_buses { (i < c.buses) × (balance < length z.now) × (on ≡ true → place < length z.now) }
-    ensures { result ≡ cond on (get_or z.now place nan) (sub binary64 (reading c readings.now CShed i) (neg (get_or z.now balance nan))) }
+fn lower_of(plan: &Plan<'_>, z: &[f64], balance: usize, place: usize, on: bool, i: usize) -> f64
+    requires { (i < plan.now.counts.buses) × (balance < length z.now) × (on ≡ true → place < length z.now) }
+    ensures { result ≡ cond on (get_or z.now place nan) (sub binary64 (reading plan.now.counts plan.now.readings.now CShed i) (neg (get_or z.now balance nan))) }
 {
     if on {
         z[place]
     } else {
-        reading(readings, c, Field::CShed, i) - (-z[balance])
+        plan.reading(Field::CShed, i) - (-z[balance])
     }
 }
 
 // The sheds' lower duals.
-fn put_lower(
-    wiring: &[u32],
-    readings: &[f64],
-    c: Counts,
-    z: &[f64],
-    balance: usize,
-    start: usize,
-    out: &mut [f64],
-    at: usize,
-)
-    requires wiring_laid { WiringLaid c wiring.now }
-    requires readings_laid { ReadingsLaid c readings.now }
-    requires buses_in_bounds { (balance + c.buses ≤ length z.now) × (balance < 0x1_0000) }
-    requires buses_in_bounds_2 { (start + active_rank (sheds c wiring.now readings.now) c.buses ≤ length z.now) × (start < 0x1_0000) }
-    requires buses_in_bounds_3 { (at + c.buses ≤ length out.old) × (at < 0x1_0000) }
-    ensures { out.new ≡ sets out.old at (made (lower_at c wiring.now readings.now z.now balance start) c.buses) }
+fn put_lower(plan: &Plan<'_>, z: &[f64], balance: usize, start: usize, out: &mut [f64], at: usize)
+    requires buses_in_bounds { (balance + plan.now.counts.buses ≤ length z.now) × (balance < 0x1_0000) }
+    requires buses_in_bounds_2 { (start + active_rank (sheds plan.now.counts plan.now.wiring.now plan.now.readings.now) plan.now.counts.buses ≤ length z.now) × (start < 0x1_0000) }
+    requires buses_in_bounds_3 { (at + plan.now.counts.buses ≤ length out.old) × (at < 0x1_0000) }
+    ensures { out.new ≡ sets out.old at (made (lower_at plan.now.counts plan.now.wiring.now plan.now.readings.now z.now balance start) plan.now.counts.buses) }
 {
-    let to = c.buses;
+    let to = plan.counts.buses;
     let mut k = 0;
     for i in 0..to {
-        let on = sheds_at(wiring, readings, c, i);
-        out[at + i] = lower_of(readings, c, z, balance + i, start + k, on, i);
+        let on = sheds_at(plan, i);
+        out[at + i] = lower_of(plan, z, balance + i, start + k, on, i);
         k += one_if(on);
     }
 }
@@ -168,28 +134,17 @@ fn signed_of(z: &[f64], equal: usize, limit: usize, limits: RowLimits) -> f64
 }
 
 // The linear rows' signed duals.
-fn put_duals(
-    wiring: &[u32],
-    readings: &[f64],
-    c: Counts,
-    z: &[f64],
-    equal: usize,
-    limit: usize,
-    out: &mut [f64],
-    at: usize,
-)
-    requires wiring_laid { WiringLaid c wiring.now }
-    requires readings_laid { ReadingsLaid c readings.now }
-    requires rows_in_bounds { (equal + equality_rank c wiring.now readings.now c.rows ≤ length z.now) × (equal < 0x1_0000) }
-    requires rows_in_bounds_2 { (limit + inequality_rank c wiring.now readings.now c.rows ≤ length z.now) × (limit < 0x1_0000) }
-    requires rows_in_bounds_3 { (at + c.rows ≤ length out.old) × (at < 0x1_0000) }
-    ensures { out.new ≡ sets out.old at (made (λ q. signed_of z.now (equal + equality_rank c wiring.now readings.now q) (limit + inequality_rank c wiring.now readings.now q) (row_limits c wiring.now readings.now q)) c.rows) }
+fn put_duals(plan: &Plan<'_>, z: &[f64], equal: usize, limit: usize, out: &mut [f64], at: usize)
+    requires rows_in_bounds { (equal + equality_rank plan.now.counts plan.now.wiring.now plan.now.readings.now plan.now.counts.rows ≤ length z.now) × (equal < 0x1_0000) }
+    requires rows_in_bounds_2 { (limit + inequality_rank plan.now.counts plan.now.wiring.now plan.now.readings.now plan.now.counts.rows ≤ length z.now) × (limit < 0x1_0000) }
+    requires rows_in_bounds_3 { (at + plan.now.counts.rows ≤ length out.old) × (at < 0x1_0000) }
+    ensures { out.new ≡ sets out.old at (made (λ q. signed_of z.now (equal + equality_rank plan.now.counts plan.now.wiring.now plan.now.readings.now q) (limit + inequality_rank plan.now.counts plan.now.wiring.now plan.now.readings.now q) (row_limits plan.now.counts plan.now.wiring.now plan.now.readings.now q)) plan.now.counts.rows) }
 {
-    let to = c.rows;
+    let to = plan.counts.rows;
     let mut k = 0;
     let mut l = 0;
     for q in 0..to {
-        let limits = row_limits(wiring, readings, c, q);
+        let limits = row_limits(plan, q);
         out[at + q] = signed_of(z, equal + k, limit + l, limits);
         k += equalities_of(limits);
         l += inequalities_of(limits);
@@ -197,96 +152,77 @@ fn put_duals(
 }
 
 // The linear rows' values at flows f and dispatch pg.
-fn put_values(
-    wiring: &[u32],
-    c: Counts,
-    term_index: &[u32],
-    term_coefficient: &[f64],
-    f: &[f64],
-    pg: &[f64],
-    out: &mut [f64],
-    at: usize,
-)
-    requires wired { Wired c wiring.now }
-    requires termed { Termed c wiring.now term_index.now term_coefficient.now }
-    requires f_len { (length f.now ≡ c.branches) × (length pg.now ≡ c.generators) }
-    requires rows_in_bounds { (at + c.rows ≤ length out.old) × (at < 0x1_0000) }
-    ensures { out.new ≡ sets out.old at (made (λ q. evaluate c wiring.now term_index.now term_coefficient.now q f.now pg.now) c.rows) }
+fn put_values(site: &Site<'_>, f: &[f64], pg: &[f64], out: &mut [f64], at: usize)
+    requires f_len { (length f.now ≡ site.now.grid.plan.counts.branches) × (length pg.now ≡ site.now.grid.plan.counts.generators) }
+    requires rows_in_bounds { (at + site.now.grid.plan.counts.rows ≤ length out.old) × (at < 0x1_0000) }
+    ensures { out.new ≡ sets out.old at (made (λ q. evaluate site.now.grid.plan.counts site.now.grid.plan.wiring.now site.now.term_index.now site.now.term_coefficient.now q f.now pg.now) site.now.grid.plan.counts.rows) }
 {
-    let to = c.rows;
+    let to = site.grid.plan.counts.rows;
     for q in 0..to {
-        out[at + q] = evaluate_at(wiring, c, term_index, term_coefficient, q, f, pg);
+        out[at + q] = evaluate_at(
+            site.grid.plan.wiring,
+            site.grid.plan.counts,
+            site.term_index,
+            site.term_coefficient,
+            q,
+            f,
+            pg,
+        );
     }
 }
 
 // The generators' cost at the dispatch that stands in a block.
-fn cost_sum(wiring: &[u32], readings: &[f64], c: Counts, x: &[f64], start: usize) -> f64
-    requires wired { Wired c wiring.now }
-    requires readings_laid { ReadingsLaid c readings.now }
-    requires generators_in_bounds { (start + c.generators ≤ length x.now) × (start < 0x1_0000) }
-    ensures { result ≡ cost_sum c wiring.now readings.now x.now start c.generators }
+fn cost_sum(grid: &Grid<'_>, x: &[f64], start: usize) -> f64
+    requires { (start + grid.now.plan.counts.generators ≤ length x.now) × (start < 0x1_0000) }
+    ensures { result ≡ cost_sum grid.now.plan.counts grid.now.plan.wiring.now grid.now.plan.readings.now x.now start grid.now.plan.counts.generators }
 {
-    let to = c.generators;
+    let to = grid.plan.counts.generators;
     let mut sum = 0.0;
     for j in 0..to {
-        sum += generator_cost_at(wiring, readings, c, j, x[start + j]);
+        sum += generator_cost_at(grid, j, x[start + j]);
     }
     sum
 }
 
-// The declared objective: none, the generators' cost, or the solver's own.
-fn objective_of(
-    wiring: &[u32],
-    readings: &[f64],
-    c: Counts,
-    x: &[f64],
-    start: usize,
-    raw: f64,
-) -> f64
-    requires wired { Wired c wiring.now }
-    requires readings_laid { ReadingsLaid c readings.now }
-    requires generators_in_bounds { (start + c.generators ≤ length x.now) × (start < 0x1_0000) }
-    ensures { result ≡ objective_of c wiring.now readings.now x.now start raw }
+// The declared objective: none, the generators' cost, or the solver's own. The wiring's word is read here alone, so a
+// match on it is as plain as one on an enum.
+fn objective_of(grid: &Grid<'_>, x: &[f64], start: usize, raw: f64) -> f64
+    requires { (start + grid.now.plan.counts.generators ≤ length x.now) × (start < 0x1_0000) }
+    ensures { result ≡ objective_of grid.now.plan.counts grid.now.plan.wiring.now grid.now.plan.readings.now x.now start raw }
 {
-    match wiring[8] {
+    match grid.plan.wiring[8] {
         0 => 0.0,
-        1 => cost_sum(wiring, readings, c, x, start),
+        1 => cost_sum(grid, x, start),
         _ => raw,
     }
 }
 
 // An entry's words from a place on.
 fn put_entry(
-    wiring: &[u32],
-    readings: &[f64],
-    term_index: &[u32],
-    term_coefficient: &[f64],
+    site: &Site<'_>,
     x: &[f64],
     z: &[f64],
     raw: f64,
-    c: Counts,
     p: usize,
     lay: OpfLayout,
     e: Entry,
     out: &mut [f64],
     at: usize,
 )
-    requires wired { Wired c wiring.now }
-    requires readings_laid { ReadingsLaid c readings.now }
-    requires termed { Termed c wiring.now term_index.now term_coefficient.now }
-    requires raw_laid { RawLaid c wiring.now readings.now x.now z.now lay }
-    requires p_value { (p ≡ pieces c wiring.now) × (at + size c p e ≤ length out.old) × (at < 0x1_0000) }
-    ensures { out.new ≡ sets out.old at (made (read_at c wiring.now readings.now term_index.now term_coefficient.now x.now z.now raw e) (size c p e)) }
+    requires raw_laid { RawLaid site.now.grid.plan.counts site.now.grid.plan.wiring.now site.now.grid.plan.readings.now x.now z.now lay }
+    requires p_value { (p ≡ pieces site.now.grid.plan.counts site.now.grid.plan.wiring.now) × (at + size site.now.grid.plan.counts p e ≤ length out.old) × (at < 0x1_0000) }
+    ensures { out.new ≡ sets out.old at (made (read_at site.now.grid.plan.counts site.now.grid.plan.wiring.now site.now.grid.plan.readings.now site.now.term_index.now site.now.term_coefficient.now x.now z.now raw e) (size site.now.grid.plan.counts p e)) }
 {
+    let plan = &site.grid.plan;
+    let c = plan.counts;
     match e {
         Entry::Va => put_block(x, lay.va, c.buses, out, at),
         Entry::Pg => put_block(x, lay.pg, c.generators, out, at),
         Entry::Flow => put_block(x, lay.flow, c.branches, out, at),
-        Entry::Psh => put_sheds(wiring, readings, c, x, lay.shed, out, at),
+        Entry::Psh => put_sheds(plan, x, lay.shed, out, at),
         Entry::NuBal => put_turned(z, lay.balance, c.buses, out, at),
         Entry::LamUb => put_flagged(
-            wiring,
-            c,
+            plan,
             Part::ThermalFlags,
             c.branches,
             z,
@@ -295,8 +231,7 @@ fn put_entry(
             at,
         ),
         Entry::LamLb => put_flagged(
-            wiring,
-            c,
+            plan,
             Part::ThermalFlags,
             c.branches,
             z,
@@ -305,8 +240,7 @@ fn put_entry(
             at,
         ),
         Entry::RhoUb => put_flagged(
-            wiring,
-            c,
+            plan,
             Part::GeneratorFlags,
             c.generators,
             z,
@@ -315,8 +249,7 @@ fn put_entry(
             at,
         ),
         Entry::RhoLb => put_flagged(
-            wiring,
-            c,
+            plan,
             Part::GeneratorFlags,
             c.generators,
             z,
@@ -324,54 +257,18 @@ fn put_entry(
             out,
             at,
         ),
-        Entry::MuUb => put_sheds(wiring, readings, c, z, lay.shed_ub, out, at),
-        Entry::MuLb => put_lower(wiring, readings, c, z, lay.balance, lay.shed_lb, out, at),
-        Entry::GammaUb => put_flagged(
-            wiring,
-            c,
-            Part::AngleFlags,
-            c.branches,
-            z,
-            lay.phase_ub,
-            out,
-            at,
-        ),
-        Entry::GammaLb => put_flagged(
-            wiring,
-            c,
-            Part::AngleFlags,
-            c.branches,
-            z,
-            lay.phase_lb,
-            out,
-            at,
-        ),
+        Entry::MuUb => put_sheds(plan, z, lay.shed_ub, out, at),
+        Entry::MuLb => put_lower(plan, z, lay.balance, lay.shed_lb, out, at),
+        Entry::GammaUb => put_flagged(plan, Part::AngleFlags, c.branches, z, lay.phase_ub, out, at),
+        Entry::GammaLb => put_flagged(plan, Part::AngleFlags, c.branches, z, lay.phase_lb, out, at),
         Entry::Epigraph => put_block(x, lay.cost, p, out, at),
         Entry::SegmentDual => put_block(z, lay.segment, c.segments, out, at),
-        Entry::LinearDual => put_duals(
-            wiring,
-            readings,
-            c,
-            z,
-            lay.linear_equal,
-            lay.linear_limit,
-            out,
-            at,
-        ),
+        Entry::LinearDual => put_duals(plan, z, lay.linear_equal, lay.linear_limit, out, at),
         Entry::LinearValue => {
-            put_values(
-                wiring,
-                c,
-                term_index,
-                term_coefficient,
-                &x[lay.flow..lay.shed],
-                &x[lay.pg..lay.flow],
-                out,
-                at,
-            );
+            put_values(site, &x[lay.flow..lay.shed], &x[lay.pg..lay.flow], out, at);
         }
         Entry::Objective => {
-            out[at] = objective_of(wiring, readings, c, x, lay.pg, raw);
+            out[at] = objective_of(&site.grid, x, lay.pg, raw);
         }
     }
 }
@@ -400,45 +297,24 @@ const ENTRIES: [Entry; 18] = [
 
 // The whole sheet into the front of another.
 pub fn read_into(
-    wiring: &[u32],
-    readings: &[f64],
-    term_index: &[u32],
-    term_coefficient: &[f64],
+    site: &Site<'_>,
     x: &[f64],
     z: &[f64],
     raw: f64,
-    c: Counts,
     p: usize,
     lay: OpfLayout,
     out: &mut [f64],
 )
-    requires wired { Wired c wiring.now }
-    requires readings_laid { ReadingsLaid c readings.now }
-    requires termed { Termed c wiring.now term_index.now term_coefficient.now }
-    requires placed { Placed c (active_of c wiring.now readings.now) lay × Bounded c (active_of c wiring.now readings.now) }
-    requires x_len { (length x.now ≡ nvar c (active_of c wiring.now readings.now)) × (length z.now ≡ ncon c (active_of c wiring.now readings.now)) }
-    requires p_value { (p ≡ pieces c wiring.now) × (sheet_length c p ≤ length out.old) }
-    ensures out_after { out.new ≡ front (read_sheet c wiring.now readings.now term_index.now term_coefficient.now x.now z.now raw) out.old }
-    ensures raw_len { length (read_sheet c wiring.now readings.now term_index.now term_coefficient.now x.now z.now raw) ≡ sheet_length c p }
+    requires placed { Placed site.now.grid.plan.counts (active_of site.now.grid.plan.counts site.now.grid.plan.wiring.now site.now.grid.plan.readings.now) lay × Bounded site.now.grid.plan.counts (active_of site.now.grid.plan.counts site.now.grid.plan.wiring.now site.now.grid.plan.readings.now) }
+    requires x_len { (length x.now ≡ nvar site.now.grid.plan.counts (active_of site.now.grid.plan.counts site.now.grid.plan.wiring.now site.now.grid.plan.readings.now)) × (length z.now ≡ ncon site.now.grid.plan.counts (active_of site.now.grid.plan.counts site.now.grid.plan.wiring.now site.now.grid.plan.readings.now)) }
+    requires p_value { (p ≡ pieces site.now.grid.plan.counts site.now.grid.plan.wiring.now) × (sheet_length site.now.grid.plan.counts p ≤ length out.old) }
+    ensures out_after { out.new ≡ front (read_sheet site.now.grid.plan.counts site.now.grid.plan.wiring.now site.now.grid.plan.readings.now site.now.term_index.now site.now.term_coefficient.now x.now z.now raw) out.old }
+    ensures raw_len { length (read_sheet site.now.grid.plan.counts site.now.grid.plan.wiring.now site.now.grid.plan.readings.now site.now.term_index.now site.now.term_coefficient.now x.now z.now raw) ≡ sheet_length site.now.grid.plan.counts p }
     ensures out_len_unchanged { length out.new ≡ length out.old }
 {
     let mut at = 0;
     for e in &ENTRIES {
-        put_entry(
-            wiring,
-            readings,
-            term_index,
-            term_coefficient,
-            x,
-            z,
-            raw,
-            c,
-            p,
-            lay,
-            *e,
-            out,
-            at,
-        );
-        at += entry_size(c, p, *e);
+        put_entry(site, x, z, raw, p, lay, *e, out, at);
+        at += entry_size(site.grid.plan.counts, p, *e);
     }
 }

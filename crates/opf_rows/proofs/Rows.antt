@@ -8,10 +8,12 @@ use lib.ListN.{get_or}
 use lib.Ieee.{Float, nan, neg, mul, binary64}
 use Rattle.float64.specs.Values.{one}
 use Rattle.sequence.specs.Lists.{each}
-use Rattle.sequence.specs.Sheets.{emit, Sheets, Puts}
+use Rattle.sequence.specs.declared.Sink.{Sink}
+use Rattle.sequence.specs.Sheets.{emit}
+use Rattle.sequence.specs.Sinks.{Gains}
 use Rattle.sequence.proofs.Lists.{each_same}
 use native.Mathlib.Nat.{le_antisymm}
-use Rattle.sequence.proofs.Sheets.{then, begin, more}
+use Rattle.sequence.proofs.Sinks.{then, begin, more}
 use Rattle.network.specs.declared.Counts.{Counts}
 use Rattle.network.specs.declared.Part.TheVariants.{FlowTerms, GenerationTerms}
 use Rattle.network.specs.declared.Field.TheVariants.{Slopes}
@@ -37,14 +39,14 @@ abbrev pub segment_of : ℕ → ℕ → ℕ → ℕ → List Coefficient
 segment_of j g start t = coefficient Segment (start + t) Pg j (rd Slopes (start + t)) ∷ coefficient Segment (start + t) Cost g less_unit ∷ []
 
 module _ (x : OpfLayout) (c : Counts) (w : List ℕ) (r : List Float) where
-  pub segment_put : {l : ℕ} {S₀ S₁ : Sheets} (j g start t : ℕ) {v : Float} → v ≡ reading c r Slopes (start + t)
-      → Puts l (pair x true Segment (start + t) Pg j v Segment (start + t) Cost g (neg one)) S₀ S₁
-      → Puts l (written x c r (segment_of j g start t)) S₀ S₁
+  pub segment_put : {S₀ S₁ : Sink} (j g start t : ℕ) {v : Float} → v ≡ reading c r Slopes (start + t)
+      → Gains (pair x true Segment (start + t) Pg j v Segment (start + t) Cost g (neg one)) S₀ S₁
+      → Gains (written x c r (segment_of j g start t)) S₀ S₁
   segment_put j g start t e p =
       pair_put x (reading c r) blank (coefficient Segment (start + t) Pg j (rd Slopes (start + t))) (coefficient Segment (start + t) Cost g less_unit) refl refl (rw e at p)
 
-  pub segments_done : {l : ℕ} {S₀ S₁ : Sheets} (j : ℕ) {g start count t : ℕ} → g ≡ piece_rank c w j → start ≡ segment_start c w j → count ≡ segments_at c w j
-      → t ≤ count → count ≤ t → Puts l (written x c r (each t (segment_of j g start))) S₀ S₁ → Puts l (written x c r (segment_entries c w r j)) S₀ S₁
+  pub segments_done : {S₀ S₁ : Sink} (j : ℕ) {g start count t : ℕ} → g ≡ piece_rank c w j → start ≡ segment_start c w j → count ≡ segments_at c w j
+      → t ≤ count → count ≤ t → Gains (written x c r (each t (segment_of j g start))) S₀ S₁ → Gains (written x c r (segment_entries c w r j)) S₀ S₁
   segments_done j {g} {start} {count} eg es ec h k p =
       rw (← eg, ← es, ← ec) (puts_done (row_in x) (column_in x) (reading c r) blank (segment_of j g start) h k p)
 
@@ -65,46 +67,46 @@ module _ (x : OpfLayout) (c : Counts) (w : List ℕ) (r : List Float) where
         written_append (row_in x) (column_in x) (reading c r) blank flows generations
         ∙ rw (term_is a row sign Flow (term_start c w q) (wire c w FlowTerms q), term_is a row sign Pg (term_start c w q + wire c w FlowTerms q) (wire c w GenerationTerms q))
 
-    pub row_put : {l : ℕ} {S₀ S₁ : Sheets} (a : OpfRow) (row : ℕ) (sign : Expr) (q : ℕ) → Puts l (row_items x c w ti tc a row (eval (reading c r) blank sign) q) S₀ S₁
-        → Puts l (written x c r (written_row c w r ti tc a row sign q)) S₀ S₁
+    pub row_put : {S₀ S₁ : Sink} (a : OpfRow) (row : ℕ) (sign : Expr) (q : ℕ) → Gains (row_items x c w ti tc a row (eval (reading c r) blank sign) q) S₀ S₁
+        → Gains (written x c r (written_row c w r ti tc a row sign q)) S₀ S₁
     row_put a row sign q p = rw (row_is a row sign q) p
 
     -- one row of the inequalities, both, and one of the equalities
-    pub limit_put : {l : ℕ} {S₀ S₁ : Sheets} (sign : Expr) (q : ℕ) {row : ℕ} → row ≡ inequality_rank c w r q → Puts l (row_items x c w ti tc LinearLimit row (eval (reading c r) blank sign) q) S₀ S₁
-        → Puts l (written x c r (written_row c w r ti tc LinearLimit (inequality_rank c w r q) sign q)) S₀ S₁
+    pub limit_put : {S₀ S₁ : Sink} (sign : Expr) (q : ℕ) {row : ℕ} → row ≡ inequality_rank c w r q → Gains (row_items x c w ti tc LinearLimit row (eval (reading c r) blank sign) q) S₀ S₁
+        → Gains (written x c r (written_row c w r ti tc LinearLimit (inequality_rank c w r q) sign q)) S₀ S₁
     limit_put sign q e p = row_put LinearLimit (inequality_rank c w r q) sign q (rw e at p)
 
-    pub equal_put : {l : ℕ} {S₀ S₁ : Sheets} (q : ℕ) {row : ℕ} → row ≡ equality_rank c w r q → Puts l (row_items x c w ti tc LinearEqual row one q) S₀ S₁
-        → Puts l (written x c r (written_row c w r ti tc LinearEqual (equality_rank c w r q) unit q)) S₀ S₁
+    pub equal_put : {S₀ S₁ : Sink} (q : ℕ) {row : ℕ} → row ≡ equality_rank c w r q → Gains (row_items x c w ti tc LinearEqual row one q) S₀ S₁
+        → Gains (written x c r (written_row c w r ti tc LinearEqual (equality_rank c w r q) unit q)) S₀ S₁
     equal_put q e p = row_put LinearEqual (equality_rank c w r q) unit q (rw e at p)
 
-    pub both_put : {l : ℕ} {S₀ S₁ : Sheets} (q : ℕ) {row : ℕ} → row ≡ inequality_rank c w r q
-        → Puts l (row_items x c w ti tc LinearLimit row one q ++ row_items x c w ti tc LinearLimit (row + 1) (neg one) q) S₀ S₁
-        → Puts l (written x c r (written_row c w r ti tc LinearLimit (inequality_rank c w r q) unit q ++ written_row c w r ti tc LinearLimit (inequality_rank c w r q + 1) less_unit q)) S₀ S₁
+    pub both_put : {S₀ S₁ : Sink} (q : ℕ) {row : ℕ} → row ≡ inequality_rank c w r q
+        → Gains (row_items x c w ti tc LinearLimit row one q ++ row_items x c w ti tc LinearLimit (row + 1) (neg one) q) S₀ S₁
+        → Gains (written x c r (written_row c w r ti tc LinearLimit (inequality_rank c w r q) unit q ++ written_row c w r ti tc LinearLimit (inequality_rank c w r q + 1) less_unit q)) S₀ S₁
     both_put q e p =
         rw (written_append (row_in x) (column_in x) (reading c r) blank (written_row c w r ti tc LinearLimit (inequality_rank c w r q) unit q) (written_row c w r ti tc LinearLimit (inequality_rank c w r q + 1) less_unit q), row_is LinearLimit (inequality_rank c w r q) unit q, row_is LinearLimit (inequality_rank c w r q + 1) less_unit q) (rw e at p)
 
     -- a row by its limits, whatever they are found to be
-    pub linear_done : {l : ℕ} {S₀ S₁ : Sheets} {k m v : RowLimits} (q : ℕ) → k ≡ m → k ≡ v
-        → Puts l (written x c r (linear_entries c w r ti tc v q)) S₀ S₁ → Puts l (written x c r (linear_entries c w r ti tc m q)) S₀ S₁
+    pub linear_done : {S₀ S₁ : Sink} {k m v : RowLimits} (q : ℕ) → k ≡ m → k ≡ v
+        → Gains (written x c r (linear_entries c w r ti tc v q)) S₀ S₁ → Gains (written x c r (linear_entries c w r ti tc m q)) S₀ S₁
     linear_done q e h p = rw (← e, h) p
 
 -- both runs of a row's terms
-pub both_terms : (x : OpfLayout) (c : Counts) (w ti : List ℕ) (tc : List Float) {l : ℕ} {S₀ S₁ S₂ : Sheets} (a : OpfRow) (row : ℕ) (sign : Float) (q : ℕ) {start flows generations : ℕ}
+pub both_terms : (x : OpfLayout) (c : Counts) (w ti : List ℕ) (tc : List Float) {S₀ S₁ S₂ : Sink} (a : OpfRow) (row : ℕ) (sign : Float) (q : ℕ) {start flows generations : ℕ}
     → start ≡ term_start c w q → flows ≡ wire c w FlowTerms q → generations ≡ wire c w GenerationTerms q
-    → Puts l (term_items x ti tc a row sign Flow start flows) S₀ S₁ → Puts l (term_items x ti tc a row sign Pg (start + flows) generations) S₁ S₂
-    → Puts l (row_items x c w ti tc a row sign q) S₀ S₂
+    → Gains (term_items x ti tc a row sign Flow start flows) S₀ S₁ → Gains (term_items x ti tc a row sign Pg (start + flows) generations) S₁ S₂
+    → Gains (row_items x c w ti tc a row sign q) S₀ S₂
 both_terms x c w ti tc a row sign q e f g p s = then (rw (e, f) at p) (rw (e, f, g) at s)
 
 module _ (x : OpfLayout) (ti : List ℕ) (tc : List Float) (a : OpfRow) (row : ℕ) (sign : Float) (k : OpfColumn) (start : ℕ) where
-  pub terms_begin : {l : ℕ} {S₀ : Sheets} → Puts l (term_items x ti tc a row sign k start 0) S₀ S₀
+  pub terms_begin : {S₀ : Sink} → Gains (term_items x ti tc a row sign k start 0) S₀ S₀
   unfolding term_items
   terms_begin = begin _
 
-  pub terms_more : {l : ℕ} {S₀ S₁ S₂ : Sheets} (t : ℕ) {j : ℕ} → j ≡ get_or ti (start + t) 0 → Puts l (term_items x ti tc a row sign k start t) S₀ S₁
-      → Puts l (emit (cell_item x true (cell a row k j (mul binary64 sign (get_or tc (start + t) nan))))) S₁ S₂ → Puts l (term_items x ti tc a row sign k start (t + 1)) S₀ S₂
+  pub terms_more : {S₀ S₁ S₂ : Sink} (t : ℕ) {j : ℕ} → j ≡ get_or ti (start + t) 0 → Gains (term_items x ti tc a row sign k start t) S₀ S₁
+      → Gains (emit (cell_item x true (cell a row k j (mul binary64 sign (get_or tc (start + t) nan))))) S₁ S₂ → Gains (term_items x ti tc a row sign k start (t + 1)) S₀ S₂
   unfolding term_items
   terms_more t e p q = more _ t p (rw e at q)
 
-  pub terms_done : {l : ℕ} {S₀ S₁ : Sheets} {t n : ℕ} → t ≤ n → n ≤ t → Puts l (term_items x ti tc a row sign k start t) S₀ S₁ → Puts l (term_items x ti tc a row sign k start n) S₀ S₁
+  pub terms_done : {S₀ S₁ : Sink} {t n : ℕ} → t ≤ n → n ≤ t → Gains (term_items x ti tc a row sign k start t) S₀ S₁ → Gains (term_items x ti tc a row sign k start n) S₀ S₁
   terms_done g h p = rw (le_antisymm g h) at p

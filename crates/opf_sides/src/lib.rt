@@ -1,25 +1,24 @@
 // problem/dc.rs, `assemble_opf`: the objective's linear part q, the right sides b and the cones' sizes.
 #![tactic(auto)]
 
-ghost use Rattle.std.specs.Prelude.{◌≡◌, [], ◌∷◌, ◌+◌, ◌<◌, ◌≤◌, length, get_or};
+ghost use Rattle.std.specs.Prelude.{◌≡◌, [], ◌∷◌, ◌+◌, ◌<◌, ◌≤◌, length};
 ghost use Rattle.sequence.specs.Lists.{front, when};
-ghost use Rattle.network.specs.Layout.{WiringLaid, ReadingsLaid, part_size};
-ghost use Rattle.network.specs.Numbers.{Wired};
+ghost use Rattle.network.specs.Layout.{part_size};
 ghost use Rattle.opf_layout.specs.declared.OpfColumn.TheVariants.{Va};
 ghost use Rattle.opf_layout.specs.declared.OpfRow.TheVariants.{Balance};
-ghost use Rattle.opf_layout.specs.Layout.{flagged, sheds, columns, rows, row_rank};
-ghost use Rattle.opf_assembly.specs.Assembly.{linear, column_elements, column_words, row_elements, equal_side, limit_sides, right_sides, row_words, q_sheet, b_sheet};
+ghost use Rattle.opf_layout.specs.Layout.{flagged, sheds, rows, row_rank};
+ghost use Rattle.opf_assembly.specs.Assembly.{linear, column_elements, row_elements, equal_side, limit_sides, right_sides, q_sheet, b_sheet};
 ghost use Rattle.opf_sides.specs.Walks.{Stores, listed, added_word, cones_in, Narrowed};
 
 use model::RowLimits;
 use model::rows::row_limits;
 use model::withdrawal::{fixed_into, flow_offset_at, shed_cap_at};
-use network::layout::{reading, word};
-use network::{Counts, Field, Part};
+use network::{Counts, Field, Grid, Part, Plan};
 use opf_layout::{OpfColumn, OpfLayout, OpfRow, one_if, sheds_at};
 use program_builder::{lin, rhs};
 
-// The right sides of one element: none where its limit is inactive, two for a linear row with two limits.
+// The right sides of one element, by value: none where its limit is inactive, two for a linear row with two limits. It
+// is a list of at most two words, which need no heap so, and says nothing of what is done with them.
 #[derive(Clone, Copy)]
 pub enum Sides {
     Nothing,
@@ -35,30 +34,26 @@ fn side_if(on: bool, v: f64) -> Sides
 }
 
 // The right side of a limit whose flag is set.
-fn flagged_side(wiring: &[u32], c: Counts, part: Part, i: usize, v: f64) -> Sides
-    requires wiring_laid { WiringLaid c wiring.now }
-    requires i_bound { i < part_size c part }
-    ensures { listed result ≡ when (flagged c wiring.now part i) (v ∷ []) }
+fn flagged_side(plan: &Plan<'_>, part: Part, i: usize, v: f64) -> Sides
+    requires { i < part_size plan.now.counts part }
+    ensures { listed result ≡ when (flagged plan.now.counts plan.now.wiring.now part i) (v ∷ []) }
 {
-    side_if(word(wiring, c, part, i) != 0, v)
+    side_if(plan.word(part, i) != 0, v)
 }
 
 // The right side of a bound on bus i's shed, where it has a column.
-fn shed_side(wiring: &[u32], readings: &[f64], c: Counts, i: usize, v: f64) -> Sides
-    requires wiring_laid { WiringLaid c wiring.now }
-    requires readings_laid { ReadingsLaid c readings.now }
-    requires i_lt_buses { i < c.buses }
-    ensures { listed result ≡ when (sheds c wiring.now readings.now i) (v ∷ []) }
+fn shed_side(plan: &Plan<'_>, i: usize, v: f64) -> Sides
+    requires { i < plan.now.counts.buses }
+    ensures { listed result ≡ when (sheds plan.now.counts plan.now.wiring.now plan.now.readings.now i) (v ∷ []) }
 {
-    side_if(sheds_at(wiring, readings, c, i), v)
+    side_if(sheds_at(plan, i), v)
 }
 
 // A linear row's right side among the equalities, in per unit.
-fn equal_side(readings: &[f64], c: Counts, limits: RowLimits) -> Sides
-    requires { ReadingsLaid c readings.now }
-    ensures { listed result ≡ equal_side c readings.now limits }
+fn equal_side(plan: &Plan<'_>, limits: RowLimits) -> Sides
+    ensures { listed result ≡ equal_side plan.now.counts plan.now.readings.now limits }
 {
-    let base = reading(readings, c, Field::BaseMva, 0);
+    let base = plan.reading(Field::BaseMva, 0);
     match limits {
         RowLimits::None | RowLimits::Upper(_) | RowLimits::Lower(_) | RowLimits::Both(_, _) => {
             Sides::Nothing
@@ -68,11 +63,10 @@ fn equal_side(readings: &[f64], c: Counts, limits: RowLimits) -> Sides
 }
 
 // A linear row's right sides among the inequalities, in per unit: upper before lower.
-fn limit_sides(readings: &[f64], c: Counts, limits: RowLimits) -> Sides
-    requires { ReadingsLaid c readings.now }
-    ensures { listed result ≡ limit_sides c readings.now limits }
+fn limit_sides(plan: &Plan<'_>, limits: RowLimits) -> Sides
+    ensures { listed result ≡ limit_sides plan.now.counts plan.now.readings.now limits }
 {
-    let base = reading(readings, c, Field::BaseMva, 0);
+    let base = plan.reading(Field::BaseMva, 0);
     match limits {
         RowLimits::None | RowLimits::Equal(_) => Sides::Nothing,
         RowLimits::Upper(u) => Sides::One(1.0 * u / base),
@@ -82,56 +76,39 @@ fn limit_sides(readings: &[f64], c: Counts, limits: RowLimits) -> Sides
 }
 
 // What stands in element i's rows of a block after the balances.
-fn sides_of(wiring: &[u32], readings: &[f64], c: Counts, b: OpfRow, i: usize) -> Sides
-    requires wiring_laid { WiringLaid c wiring.now }
-    requires readings_laid { ReadingsLaid c readings.now }
-    requires i_bound { (i < row_elements c b) × (0 < row_rank b) }
-    ensures { listed result ≡ right_sides c wiring.now readings.now b i }
+fn sides_of(plan: &Plan<'_>, b: OpfRow, i: usize) -> Sides
+    requires { (i < row_elements plan.now.counts b) × (0 < row_rank b) }
+    ensures { listed result ≡ right_sides plan.now.counts plan.now.wiring.now plan.now.readings.now b i }
 {
     match b {
         OpfRow::Balance => Sides::Nothing,
-        OpfRow::FlowRow => Sides::One(flow_offset_at(readings, c, i)),
+        OpfRow::FlowRow => Sides::One(flow_offset_at(plan.readings, plan.counts, i)),
         OpfRow::Reference => Sides::One(0.0),
         OpfRow::LineUb | OpfRow::LineLb => flagged_side(
-            wiring,
-            c,
+            plan,
             Part::ThermalFlags,
             i,
-            reading(readings, c, Field::Fmax, i),
+            plan.reading(Field::Fmax, i),
         ),
-        OpfRow::GenUb => flagged_side(
-            wiring,
-            c,
-            Part::GeneratorFlags,
-            i,
-            reading(readings, c, Field::Gmax, i),
-        ),
-        OpfRow::GenLb => flagged_side(
-            wiring,
-            c,
-            Part::GeneratorFlags,
-            i,
-            -reading(readings, c, Field::Gmin, i),
-        ),
-        OpfRow::ShedUb => shed_side(wiring, readings, c, i, shed_cap_at(wiring, readings, c, i)),
-        OpfRow::ShedLb => shed_side(wiring, readings, c, i, 0.0),
+        OpfRow::GenUb => flagged_side(plan, Part::GeneratorFlags, i, plan.reading(Field::Gmax, i)),
+        OpfRow::GenLb => flagged_side(plan, Part::GeneratorFlags, i, -plan.reading(Field::Gmin, i)),
+        OpfRow::ShedUb => shed_side(plan, i, shed_cap_at(plan, i)),
+        OpfRow::ShedLb => shed_side(plan, i, 0.0),
         OpfRow::PhaseUb => flagged_side(
-            wiring,
-            c,
+            plan,
             Part::AngleFlags,
             i,
-            reading(readings, c, Field::Sw, i) * reading(readings, c, Field::Angmax, i),
+            plan.reading(Field::Sw, i) * plan.reading(Field::Angmax, i),
         ),
         OpfRow::PhaseLb => flagged_side(
-            wiring,
-            c,
+            plan,
             Part::AngleFlags,
             i,
-            -reading(readings, c, Field::Sw, i) * reading(readings, c, Field::Angmin, i),
+            -plan.reading(Field::Sw, i) * plan.reading(Field::Angmin, i),
         ),
-        OpfRow::Segment => Sides::One(-reading(readings, c, Field::Intercepts, i)),
-        OpfRow::LinearEqual => equal_side(readings, c, row_limits(wiring, readings, c, i)),
-        OpfRow::LinearLimit => limit_sides(readings, c, row_limits(wiring, readings, c, i)),
+        OpfRow::Segment => Sides::One(-plan.reading(Field::Intercepts, i)),
+        OpfRow::LinearEqual => equal_side(plan, row_limits(plan, i)),
+        OpfRow::LinearLimit => limit_sides(plan, row_limits(plan, i)),
     }
 }
 
@@ -169,28 +146,6 @@ fn row_elements(c: Counts, b: OpfRow) -> usize
     }
 }
 
-// A block of b after the balances, from row `at` on; the next row.
-fn put_rows(
-    wiring: &[u32],
-    readings: &[f64],
-    c: Counts,
-    b: OpfRow,
-    sides: &mut [f64],
-    at: usize,
-) -> usize
-    requires wiring_laid { WiringLaid c wiring.now }
-    requires readings_laid { ReadingsLaid c readings.now }
-    requires b_in_bounds { (at + length (row_words c wiring.now readings.now b) ≤ length sides.old) × (0 < row_rank b) }
-    ensures { Stores (row_words c wiring.now readings.now b) at sides.old sides.new result }
-{
-    let to = row_elements(c, b);
-    let mut k = at;
-    for i in 0..to {
-        k = put_sides(sides, k, sides_of(wiring, readings, c, b, i));
-    }
-    k
-}
-
 // The blocks of rows after the balances, in the layout's order.
 const ROWS: [OpfRow; 13] = [
     OpfRow::FlowRow,
@@ -209,33 +164,30 @@ const ROWS: [OpfRow; 13] = [
 ];
 
 // b, row by row: the balances' withdrawals are summed over the branches first.
-pub fn put_b(wiring: &[u32], readings: &[f64], c: Counts, b: &mut [f64])
-    requires wired { Wired c wiring.now }
-    requires readings_laid { ReadingsLaid c readings.now }
-    requires readings_in_bounds { length (b_sheet c wiring.now readings.now) ≤ length b.old }
-    ensures { b.new ≡ front (b_sheet c wiring.now readings.now) b.old }
+pub fn put_b(grid: &Grid<'_>, b: &mut [f64])
+    requires { length (b_sheet grid.now.plan.counts grid.now.plan.wiring.now grid.now.plan.readings.now) ≤ length b.old }
+    ensures { b.new ≡ front (b_sheet grid.now.plan.counts grid.now.plan.wiring.now grid.now.plan.readings.now) b.old }
 {
-    fixed_into(wiring, readings, c, b);
-    let mut at = c.buses;
+    fixed_into(grid, b);
+    let mut at = grid.plan.counts.buses;
     for block in &ROWS {
-        at = put_rows(wiring, readings, c, *block, b, at);
+        for i in 0..row_elements(grid.plan.counts, *block) {
+            at = put_sides(b, at, sides_of(&grid.plan, *block, i));
+        }
     }
 }
 
-// What `lin` adds in an element's column, where it has one: cl at the generators, c_shed at the sheds, 1 at the epigraphs.
-fn linear_of(wiring: &[u32], readings: &[f64], c: Counts, k: OpfColumn, i: usize) -> Option<f64>
-    requires wiring_laid { WiringLaid c wiring.now }
-    requires readings_laid { ReadingsLaid c readings.now }
-    requires i_bound { i < column_elements c k }
-    ensures { added_word result ≡ linear c wiring.now readings.now k i }
+// What `lin` adds in an element's column, where it has one: cl at the generators, c_shed at the sheds, 1 at the
+// epigraphs.
+fn linear_of(plan: &Plan<'_>, k: OpfColumn, i: usize) -> Option<f64>
+    requires { i < column_elements plan.now.counts k }
+    ensures { added_word result ≡ linear plan.now.counts plan.now.wiring.now plan.now.readings.now k i }
 {
     match k {
         OpfColumn::Va | OpfColumn::Flow => Some(0.0),
-        OpfColumn::Pg => Some(reading(readings, c, Field::Cl, i)),
-        OpfColumn::Shed => {
-            sheds_at(wiring, readings, c, i).then_some(reading(readings, c, Field::CShed, i))
-        }
-        OpfColumn::Cost => (word(wiring, c, Part::Segments, i) != 0).then_some(1.0),
+        OpfColumn::Pg => Some(plan.reading(Field::Cl, i)),
+        OpfColumn::Shed => { sheds_at(plan, i).then_some(plan.reading(Field::CShed, i)) }
+        OpfColumn::Cost => (plan.word(Part::Segments, i) != 0).then_some(1.0),
     }
 }
 
@@ -263,28 +215,6 @@ fn column_elements(c: Counts, k: OpfColumn) -> usize
     }
 }
 
-// A block of q, from column `at` on; the next column.
-fn put_columns(
-    wiring: &[u32],
-    readings: &[f64],
-    c: Counts,
-    b: OpfColumn,
-    q: &mut [f64],
-    at: usize,
-) -> usize
-    requires wiring_laid { WiringLaid c wiring.now }
-    requires readings_laid { ReadingsLaid c readings.now }
-    requires b_in_bounds { at + length (column_words c wiring.now readings.now b) ≤ length q.old }
-    ensures { Stores (column_words c wiring.now readings.now b) at q.old q.new result }
-{
-    let to = column_elements(c, b);
-    let mut k = at;
-    for i in 0..to {
-        k = put_linear(q, k, linear_of(wiring, readings, c, b, i));
-    }
-    k
-}
-
 // The blocks of columns, in the layout's order.
 const COLUMNS: [OpfColumn; 5] = [
     OpfColumn::Va,
@@ -295,15 +225,15 @@ const COLUMNS: [OpfColumn; 5] = [
 ];
 
 // q, column by column.
-pub fn put_q(wiring: &[u32], readings: &[f64], c: Counts, q: &mut [f64])
-    requires wiring_laid { WiringLaid c wiring.now }
-    requires readings_laid { ReadingsLaid c readings.now }
-    requires readings_in_bounds { length (q_sheet c wiring.now readings.now) ≤ length q.old }
-    ensures { q.new ≡ front (q_sheet c wiring.now readings.now) q.old }
+pub fn put_q(plan: &Plan<'_>, q: &mut [f64])
+    requires { length (q_sheet plan.now.counts plan.now.wiring.now plan.now.readings.now) ≤ length q.old }
+    ensures { q.new ≡ front (q_sheet plan.now.counts plan.now.wiring.now plan.now.readings.now) q.old }
 {
     let mut at = 0;
     for block in &COLUMNS {
-        at = put_columns(wiring, readings, c, *block, q, at);
+        for i in 0..column_elements(plan.counts, *block) {
+            at = put_linear(q, at, linear_of(plan, *block, i));
+        }
     }
 }
 

@@ -2,27 +2,30 @@
 #![tactic(auto)]
 
 ghost use Rattle.std.specs.Prelude.{◌≡◌, List, [], ◌∷◌, ℕ, ◌+◌, ◌<◌, ◌≤◌, Float};
-ghost use Rattle.network.specs.Layout.{WiringLaid, ReadingsLaid, reading};
-ghost use Rattle.network.specs.Numbers.{Wired, Termed};
-ghost use Rattle.solution.specs.Sheet.{solved, SheetLaid};
+ghost use Rattle.network.specs.Layout.{reading};
+ghost use Rattle.network.specs.Numbers.{Termed};
+ghost use Rattle.solution.specs.Sheet.{SheetLaid};
 ghost use Rattle.kkt_index.specs.Index.{rows_of, linear_start, linear_row_count, start_in};
 ghost use Rattle.snapping.specs.Expr.{eval, none, unit};
-ghost use Rattle.snapping.specs.Snap.{if_fixed, nu_flow};
+ghost use Rattle.snapping.specs.Snap.{if_fixed};
 ghost use Rattle.parameter_column.specs.declared.Served.TheVariants.{Demand, CostQuadratic, LineLimit, BranchSusceptance, Switching, ConstraintLimit};
-ghost use Rattle.parameter_column.specs.Columns.{touch, valued, touches, price_across, gamma_across, gamma_marks};
+ghost use Rattle.parameter_column.specs.Columns.{touch, touches, gamma_across, gamma_marks};
+ghost use Rattle.parameter_column.specs.Points.{touches_at, valued_at, value_at, flow_dual};
 ghost use Rattle.parameter_column.specs.Walks.{Touched, Fitted, rows_in, weight_touches, shift_touches};
 
 use kkt_index::{Block, KktIdx, rows_of};
 use model::RowLimits;
 use model::rows::row_limits;
 use network::layout::{reading, word};
-use network::{Counts, Field, Part};
+use network::{Counts, Field, Grid, Part, Plan};
 use snapping::{
-    LinearDuals, angle, gamma_lb_of, gamma_ub_of, is_fixed_zero_shed, mu_ub_of, snap_linear_at,
+    LinearDuals, across, angle, gamma_lb_of, gamma_ub_of, is_fixed_zero_shed, mu_ub_of,
+    snap_linear_at,
 };
-use solution::{Entry, solved_at};
+use solution::{Entry, OperatingPoint, solved_at};
 
-// What is done with a word of a column.
+// What is done with a word of a column. The definitions say it of each word, beside its row and its value, so it is a
+// part of what a column is, and `touch` is the one place that runs it.
 #[derive(Clone, Copy, Debug, PartialEq, Eq)]
 pub enum How {
     Put,
@@ -58,13 +61,11 @@ pub fn touch(c: Counts, idx: KktIdx, column: &mut [f64], b: Block, i: usize, how
 }
 
 // 1 where the cap moves with the demand, 0 at a fixed bus.
-fn cap_rate(wiring: &[u32], readings: &[f64], c: Counts, i: usize) -> f64
-    requires wiring_laid { WiringLaid c wiring.now }
-    requires readings_laid { ReadingsLaid c readings.now }
-    requires i_lt_buses { i < c.buses }
-    ensures { (S : _) → result ≡ eval (reading c readings.now) S (if_fixed wiring.now i none unit) }
+fn cap_rate(plan: &Plan<'_>, i: usize) -> f64
+    requires { i < plan.now.counts.buses }
+    ensures { (S : _) → result ≡ eval (reading plan.now.counts plan.now.readings.now) S (if_fixed plan.now.wiring.now i none unit) }
 {
-    if is_fixed_zero_shed(wiring, readings, c, i) {
+    if is_fixed_zero_shed(plan, i) {
         0.0
     } else {
         1.0
@@ -72,29 +73,20 @@ fn cap_rate(wiring: &[u32], readings: &[f64], c: Counts, i: usize) -> f64
 }
 
 // Bus i's demand: its balance, and its cap.
-pub fn demand_column(
-    wiring: &[u32],
-    readings: &[f64],
-    solution: &[f64],
-    c: Counts,
-    idx: KktIdx,
-    i: usize,
-    column: &mut [f64],
-)
-    requires wired { Wired c wiring.now }
-    requires readings_laid { ReadingsLaid c readings.now }
-    requires sheet_laid { SheetLaid c idx.pieces solution.now }
-    requires fitted { Fitted c idx column.old }
-    requires i_lt_buses { i < c.buses }
-    ensures { (ti : List ℕ) (tc : List Float) → Touched (start_in idx) (touches c wiring.now ti tc idx.pieces readings.now solution.now Demand i) column.old column.new }
+pub fn demand_column(point: &OperatingPoint<'_>, idx: KktIdx, i: usize, column: &mut [f64])
+    requires fitted { Fitted point.now.grid.plan.counts idx column.old }
+    requires i_lt_buses { i < point.now.grid.plan.counts.buses }
+    ensures { (ti : List ℕ) (tc : List Float) → Touched (start_in idx) (touches_at point.now ti tc Demand i) column.old column.new }
 {
-    let mu = mu_ub_of(wiring, readings, solution, c, idx.pieces, i)
-        * cap_rate(wiring, readings, c, i);
+    let c = point.grid.plan.counts;
+    let mu = mu_ub_of(&point.grid.plan, point.sheet, point.pieces, i)
+        * cap_rate(&point.grid.plan, i);
     touch(c, idx, column, Block::NuBal, i, How::Put, -1.0);
     touch(c, idx, column, Block::MuUb, i, How::Put, mu);
 }
 
 // Generator j's quadratic cost: twice its power.
+// Here and in `limit_column`: the sheet alone; an operating point would ask for a grid too.
 pub fn quadratic_column(solution: &[f64], c: Counts, idx: KktIdx, j: usize, column: &mut [f64])
     requires sheet_laid { SheetLaid c idx.pieces solution.now }
     requires fitted { Fitted c idx column.old }
@@ -127,8 +119,7 @@ pub fn limit_column(solution: &[f64], c: Counts, idx: KktIdx, e: usize, column: 
 
 // What a branch's weight moves: both balances, the flow definition, both angles' stationarity.
 fn weight_column(
-    wiring: &[u32],
-    c: Counts,
+    grid: &Grid<'_>,
     idx: KktIdx,
     e: usize,
     flow: f64,
@@ -136,13 +127,13 @@ fn weight_column(
     at_to: f64,
     column: &mut [f64],
 )
-    requires wired { Wired c wiring.now }
-    requires fitted { Fitted c idx column.old }
-    requires e_lt_branches { e < c.branches }
-    ensures { Touched (start_in idx) (weight_touches c wiring.now e flow at_from at_to) column.old column.new }
+    requires fitted { Fitted grid.now.plan.counts idx column.old }
+    requires e_lt_branches { e < grid.now.plan.counts.branches }
+    ensures { Touched (start_in idx) (weight_touches grid.now.plan.counts grid.now.plan.wiring.now e flow at_from at_to) column.old column.new }
 {
-    let from = word(wiring, c, Part::BrFrom, e);
-    let to = word(wiring, c, Part::BrTo, e);
+    let c = grid.plan.counts;
+    let from = grid.word(Part::BrFrom, e);
+    let to = grid.word(Part::BrTo, e);
     touch(c, idx, column, Block::NuBal, from, How::Plus, flow);
     touch(c, idx, column, Block::NuBal, to, How::Less, flow);
     touch(c, idx, column, Block::NuFlow, e, How::Plus, flow);
@@ -150,43 +141,26 @@ fn weight_column(
     touch(c, idx, column, Block::Va, to, How::Plus, at_to);
 }
 
-// nu_bal at branch e's from end less that at its to end.
-fn price_across(wiring: &[u32], solution: &[f64], c: Counts, p: usize, e: usize) -> f64
-    requires wired { Wired c wiring.now }
-    requires sheet_laid { SheetLaid c p solution.now }
-    requires e_lt_branches { e < c.branches }
-    ensures { (R : _) → result ≡ eval R (solved c p solution.now) (price_across c wiring.now e) }
-{
-    let from = word(wiring, c, Part::BrFrom, e);
-    let to = word(wiring, c, Part::BrTo, e);
-    solved_at(solution, c, p, Entry::NuBal, from) - solved_at(solution, c, p, Entry::NuBal, to)
-}
-
 // Branch e's susceptance, by its flow's dual.
 pub fn susceptance_column(
-    wiring: &[u32],
-    readings: &[f64],
-    solution: &[f64],
-    c: Counts,
+    point: &OperatingPoint<'_>,
     idx: KktIdx,
     e: usize,
     dual: f64,
     column: &mut [f64],
 )
-    requires wired { Wired c wiring.now }
-    requires readings_laid { ReadingsLaid c readings.now }
-    requires sheet_laid { SheetLaid c idx.pieces solution.now }
-    requires fitted { Fitted c idx column.old }
-    requires e_lt_branches { e < c.branches }
-    ensures { (ti : List ℕ) (tc : List Float) → dual ≡ nu_flow c wiring.now ti tc idx.pieces readings.now solution.now e → Touched (start_in idx) (touches c wiring.now ti tc idx.pieces readings.now solution.now BranchSusceptance e) column.old column.new }
+    requires fitted { Fitted point.now.grid.plan.counts idx column.old }
+    requires e_lt_branches { e < point.now.grid.plan.counts.branches }
+    ensures { (ti : List ℕ) (tc : List Float) → dual ≡ flow_dual point.now ti tc e → Touched (start_in idx) (touches_at point.now ti tc BranchSusceptance e) column.old column.new }
 {
-    let dth = angle(wiring, solution, c, idx.pieces, e);
-    let dnu = price_across(wiring, solution, c, idx.pieces, e);
-    let sw = reading(readings, c, Field::Sw, e);
-    let shift = reading(readings, c, Field::Shift, e);
+    let c = point.grid.plan.counts;
+    let w = point.grid.plan.wiring;
+    let dth = angle(w, point.sheet, c, point.pieces, e);
+    let dnu = across(w, point.sheet, c, point.pieces, Entry::NuBal, e);
+    let sw = point.grid.reading(Field::Sw, e);
+    let shift = point.grid.reading(Field::Shift, e);
     weight_column(
-        wiring,
-        c,
+        &point.grid,
         idx,
         e,
         sw * (dth - shift),
@@ -197,76 +171,48 @@ pub fn susceptance_column(
 }
 
 // What switching moves of branch e's angle limits.
-fn gamma_column(
-    wiring: &[u32],
-    readings: &[f64],
-    solution: &[f64],
-    c: Counts,
-    idx: KktIdx,
-    e: usize,
-    column: &mut [f64],
-)
-    requires wired { Wired c wiring.now }
-    requires readings_laid { ReadingsLaid c readings.now }
-    requires sheet_laid { SheetLaid c idx.pieces solution.now }
-    requires fitted { Fitted c idx column.old }
-    requires e_lt_branches { e < c.branches }
-    ensures { Touched (start_in idx) (valued (reading c readings.now) (solved c idx.pieces solution.now) (gamma_marks c wiring.now e)) column.old column.new }
+fn gamma_column(point: &OperatingPoint<'_>, idx: KktIdx, e: usize, column: &mut [f64])
+    requires fitted { Fitted point.now.grid.plan.counts idx column.old }
+    requires e_lt_branches { e < point.now.grid.plan.counts.branches }
+    ensures { Touched (start_in idx) (valued_at point.now (gamma_marks point.now.grid.plan.counts point.now.grid.plan.wiring.now e)) column.old column.new }
 {
-    let dth = angle(wiring, solution, c, idx.pieces, e);
-    let lower = gamma_lb_of(wiring, readings, solution, c, idx.pieces, e)
-        * (dth - reading(readings, c, Field::Angmin, e));
-    let upper = gamma_ub_of(wiring, readings, solution, c, idx.pieces, e)
-        * (reading(readings, c, Field::Angmax, e) - dth);
+    let c = point.grid.plan.counts;
+    let dth = angle(point.grid.plan.wiring, point.sheet, c, point.pieces, e);
+    let lower = gamma_lb_of(point, e) * (dth - point.grid.reading(Field::Angmin, e));
+    let upper = gamma_ub_of(point, e) * (point.grid.reading(Field::Angmax, e) - dth);
     touch(c, idx, column, Block::GammaLb, e, How::Plus, lower);
     touch(c, idx, column, Block::GammaUb, e, How::Plus, upper);
 }
 
 // gamma_ub less gamma_lb, both snapped.
-fn gamma_across(
-    wiring: &[u32],
-    readings: &[f64],
-    solution: &[f64],
-    c: Counts,
-    p: usize,
-    e: usize,
-) -> f64
-    requires wired { Wired c wiring.now }
-    requires readings_laid { ReadingsLaid c readings.now }
-    requires sheet_laid { SheetLaid c p solution.now }
-    requires e_lt_branches { e < c.branches }
-    ensures { result ≡ eval (reading c readings.now) (solved c p solution.now) (gamma_across c wiring.now e) }
+fn gamma_across(point: &OperatingPoint<'_>, e: usize) -> f64
+    requires { e < point.now.grid.plan.counts.branches }
+    ensures { result ≡ value_at point.now (gamma_across point.now.grid.plan.counts point.now.grid.plan.wiring.now e) }
 {
-    gamma_ub_of(wiring, readings, solution, c, p, e)
-        - gamma_lb_of(wiring, readings, solution, c, p, e)
+    gamma_ub_of(point, e) - gamma_lb_of(point, e)
 }
 
 // Branch e's switching state, by its flow's dual.
 pub fn switching_column(
-    wiring: &[u32],
-    readings: &[f64],
-    solution: &[f64],
-    c: Counts,
+    point: &OperatingPoint<'_>,
     idx: KktIdx,
     e: usize,
     dual: f64,
     column: &mut [f64],
 )
-    requires wired { Wired c wiring.now }
-    requires readings_laid { ReadingsLaid c readings.now }
-    requires sheet_laid { SheetLaid c idx.pieces solution.now }
-    requires fitted { Fitted c idx column.old }
-    requires e_lt_branches { e < c.branches }
-    ensures { (ti : List ℕ) (tc : List Float) → dual ≡ nu_flow c wiring.now ti tc idx.pieces readings.now solution.now e → Touched (start_in idx) (touches c wiring.now ti tc idx.pieces readings.now solution.now Switching e) column.old column.new }
+    requires fitted { Fitted point.now.grid.plan.counts idx column.old }
+    requires e_lt_branches { e < point.now.grid.plan.counts.branches }
+    ensures { (ti : List ℕ) (tc : List Float) → dual ≡ flow_dual point.now ti tc e → Touched (start_in idx) (touches_at point.now ti tc Switching e) column.old column.new }
 {
-    let dth = angle(wiring, solution, c, idx.pieces, e);
-    let dnu = price_across(wiring, solution, c, idx.pieces, e);
-    let g = gamma_across(wiring, readings, solution, c, idx.pieces, e);
-    let b = reading(readings, c, Field::Susceptance, e);
-    let offset = reading(readings, c, Field::FlowOffset, e);
+    let c = point.grid.plan.counts;
+    let w = point.grid.plan.wiring;
+    let dth = angle(w, point.sheet, c, point.pieces, e);
+    let dnu = across(w, point.sheet, c, point.pieces, Entry::NuBal, e);
+    let g = gamma_across(point, e);
+    let b = point.grid.reading(Field::Susceptance, e);
+    let offset = point.grid.reading(Field::FlowOffset, e);
     weight_column(
-        wiring,
-        c,
+        &point.grid,
         idx,
         e,
         b * dth - offset,
@@ -274,21 +220,15 @@ pub fn switching_column(
         b * dnu + b * dual - g,
         column,
     );
-    gamma_column(wiring, readings, solution, c, idx, e, column);
+    gamma_column(point, idx, e, column);
 }
 
 // Where linear row q starts in its block.
-fn linear_start(wiring: &[u32], readings: &[f64], c: Counts, q: usize) -> usize
-    requires wiring_laid { WiringLaid c wiring.now }
-    requires readings_laid { ReadingsLaid c readings.now }
-    requires q_lt_rows { q < c.rows }
-    ensures { (result ≡ linear_start c wiring.now readings.now q) × (result ≤ 128) }
+fn linear_start(plan: &Plan<'_>, q: usize) -> usize
+    requires { q < plan.now.counts.rows }
+    ensures { (result ≡ linear_start plan.now.counts plan.now.wiring.now plan.now.readings.now q) × (result ≤ 128) }
 {
-    let mut count = 0;
-    for i in 0..q {
-        count += rows_of(row_limits(wiring, readings, c, i));
-    }
-    count
+    (0..q).map(|i| rows_of(row_limits(plan, i))).sum()
 }
 
 // A shift of linear row q's limits, by its multipliers, whose rows start at a place.
@@ -324,35 +264,20 @@ fn shift_column(
 
 // A shift of linear row q's limits.
 pub fn constraint_column(
-    wiring: &[u32],
-    readings: &[f64],
+    point: &OperatingPoint<'_>,
     term_index: &[u32],
     term_coefficient: &[f64],
-    solution: &[f64],
-    c: Counts,
     idx: KktIdx,
     q: usize,
     column: &mut [f64],
 )
-    requires wired { Wired c wiring.now }
-    requires readings_laid { ReadingsLaid c readings.now }
-    requires termed { Termed c wiring.now term_index.now term_coefficient.now }
-    requires sheet_laid { SheetLaid c idx.pieces solution.now }
-    requires fitted { Fitted c idx column.old }
-    requires q_lt_rows { (q < c.rows) × (idx.linear_rows ≡ linear_row_count c wiring.now readings.now) }
-    ensures { Touched (start_in idx) (touches c wiring.now term_index.now term_coefficient.now idx.pieces readings.now solution.now ConstraintLimit q) column.old column.new }
+    requires termed { Termed point.now.grid.plan.counts point.now.grid.plan.wiring.now term_index.now term_coefficient.now }
+    requires fitted { Fitted point.now.grid.plan.counts idx column.old }
+    requires q_lt_rows { (q < point.now.grid.plan.counts.rows) × (idx.linear_rows ≡ linear_row_count point.now.grid.plan.counts point.now.grid.plan.wiring.now point.now.grid.plan.readings.now) }
+    ensures { Touched (start_in idx) (touches_at point.now term_index.now term_coefficient.now ConstraintLimit q) column.old column.new }
 {
-    let limits = row_limits(wiring, readings, c, q);
-    let d = snap_linear_at(
-        wiring,
-        readings,
-        term_index,
-        term_coefficient,
-        solution,
-        c,
-        idx.pieces,
-        q,
-    );
-    let start = linear_start(wiring, readings, c, q);
-    shift_column(c, idx, start, limits, d, column);
+    let limits = row_limits(&point.grid.plan, q);
+    let d = snap_linear_at(point, term_index, term_coefficient, q);
+    let start = linear_start(&point.grid.plan, q);
+    shift_column(point.grid.plan.counts, idx, start, limits, d, column);
 }

@@ -1,2 +1,3 @@
 -- The definitions that the contracts cite: the columns of a parameter, one after the other. Assumes nothing.
 pub mod Sheet
+pub mod Sites

@@ -7,32 +7,29 @@ ghost use Rattle.std.specs.Float.Ieee.{div};
 ghost use Rattle.sequence.specs.Answers.{answered};
 ghost use Rattle.sequence.specs.Lists.{made, front};
 ghost use Rattle.network.specs.declared.Field.TheVariants.{BaseMva};
-ghost use Rattle.network.specs.Layout.{ReadingsLaid, reading};
+ghost use Rattle.network.specs.Layout.{reading};
 ghost use Rattle.network.specs.Sites.{network_in};
 ghost use Rattle.solution.specs.declared.Entry.TheVariants.{NuBal};
-ghost use Rattle.solution.specs.Sheet.{solved, SheetLaid};
+ghost use Rattle.solution.specs.Sheet.{solved};
 ghost use Rattle.problem.specs.Calls.{nodal_call, read_call};
 
-use network::layout::reading;
-use network::{Counts, Field, Lent};
+use network::{Field, Lent};
 use opf_layout::{OpfLayout, active_of};
 use opf_readback::read_into;
 use raw_check::accept_raw;
 use sequence::{Answer, Refusal};
-use solution::{Entry, piece_count, solved_at};
+use solution::{Entry, OperatingPoint, piece_count};
 use solution_check::{accept_solution, sheet_length};
 
-// nu_bal / base_mva of every bus.
-fn nodal_into(readings: &[f64], solution: &[f64], c: Counts, p: usize, out: &mut [f64])
-    requires readings_laid { ReadingsLaid c readings.now }
-    requires sheet_laid { SheetLaid c p solution.now }
-    requires buses_in_bounds { c.buses ≤ length out.old }
-    ensures { out.new ≡ front (made (λ i. div binary64 (solved c p solution.now NuBal i) (reading c readings.now BaseMva 0)) c.buses) out.old }
+// nu_bal / base_mva of every bus: the sheet names its words by entry and index, so the loop goes over the indexes.
+fn nodal_into(point: &OperatingPoint<'_>, out: &mut [f64])
+    requires { point.now.grid.plan.counts.buses ≤ length out.old }
+    ensures { out.new ≡ front (made (λ i. div binary64 (solved point.now.grid.plan.counts point.now.pieces point.now.sheet.now NuBal i) (reading point.now.grid.plan.counts point.now.grid.plan.readings.now BaseMva 0)) point.now.grid.plan.counts.buses) out.old }
 {
-    let base = reading(readings, c, Field::BaseMva, 0);
-    let to = c.buses;
+    let base = point.grid.reading(Field::BaseMva, 0);
+    let to = point.grid.plan.counts.buses;
     for i in 0..to {
-        out[i] = solved_at(solution, c, p, Entry::NuBal, i) / base;
+        out[i] = point.value(Entry::NuBal, i) / base;
     }
 }
 
@@ -41,11 +38,16 @@ pub fn nodal_marginal_values(lent: Lent<'_>, solution: &[f64], out: &mut [f64]) 
     ensures { answered result out.new ≡ nodal_call (network_in lent.entry) solution.now out.old }
 {
     let site = accept_solution(lent, solution, true)?;
-    let c = site.counts;
+    let c = site.grid.plan.counts;
     if out.len() < c.buses {
         return Err(Refusal::Short);
     }
-    nodal_into(site.readings, solution, c, piece_count(site.wiring, c), out);
+    let point = OperatingPoint {
+        grid: site.grid,
+        pieces: piece_count(site.grid.plan.wiring, c),
+        sheet: solution,
+    };
+    nodal_into(&point, out);
     Ok(c.buses)
 }
 
@@ -60,25 +62,13 @@ pub fn read_dc_solution(
     ensures { answered result out.new ≡ read_call (network_in lent.entry) x.now z.now objective out.old }
 {
     let site = accept_raw(lent, x, z, objective)?;
-    let c = site.counts;
-    let p = piece_count(site.wiring, c);
+    let c = site.grid.plan.counts;
+    let p = piece_count(site.grid.plan.wiring, c);
     let count = sheet_length(c, p);
     if out.len() < count {
         return Err(Refusal::Short);
     }
-    let lay = OpfLayout::dc(c, active_of(site.wiring, site.readings, c));
-    read_into(
-        site.wiring,
-        site.readings,
-        site.term_index,
-        site.term_coefficient,
-        x,
-        z,
-        objective,
-        c,
-        p,
-        lay,
-        out,
-    );
+    let lay = OpfLayout::dc(c, active_of(&site.grid.plan));
+    read_into(&site, x, z, objective, p, lay, out);
     Ok(count)
 }

@@ -1,53 +1,36 @@
-// problem/mod.rs, `ProgramBuilder` without CSC. What it keeps is lent: P's and A's triplets in three
-// sheets each, in the order written and not merged, q and b in one each.
+// problem/mod.rs, `ProgramBuilder` without CSC. What it keeps is lent: a sink for P's triplets and one
+// for A's, in the order written and not merged, and a sheet for q and for b.
 #![tactic(auto)]
 
 ghost use Rattle.std.specs.Prelude.{◌≡◌, ◌+◌, ◌<◌, ◌≤◌, length};
-ghost use Rattle.sequence.specs.Sheets.{held, Puts, Room};
+ghost use Rattle.sequence.specs.Sinks.{Gains};
 ghost use Rattle.program_builder.specs.Builder.{kept, added, replaced};
 
-use sequence::{Triplet, put};
+use sequence::{Sink, Triplet};
 
 // Entry `A[r, c]`; zeros are dropped.
-pub fn a(
-    rows: &mut [u32],
-    cols: &mut [u32],
-    values: &mut [f64],
-    limit: usize,
-    at: usize,
-    r: usize,
-    c: usize,
-    v: f64,
-) -> usize
-    requires room { Room limit (held rows cols values at) }
-    requires r_bound { (r < 0x1_0000_0000) × (c < 0x1_0000_0000) }
-    ensures puts { Puts limit (kept r c v) (held rows.entry cols.entry values.entry at) (held rows.exit cols.exit values.exit result) }
-    ensures most { result ≤ at + 1 }
+pub fn a(sink: &mut Sink<'_>, r: usize, c: usize, v: f64)
+    requires narrow { (r < 0x1_0000_0000) × (c < 0x1_0000_0000) }
+    requires few { sink.old.count < 0x4000_0000 }
+    ensures puts { Gains (kept r c v) sink.old sink.new }
+    ensures most { sink.new.count ≤ sink.old.count + 1 }
 {
     let triplet = Triplet {
         row: r as u32,
         col: c as u32,
         value: v,
     };
-    put(rows, cols, values, limit, at, (v != 0.0).then_some(triplet))
+    sink.put((v != 0.0).then_some(triplet));
 }
 
 // Diagonal entry `P[c, c]`.
-pub fn quad(
-    rows: &mut [u32],
-    cols: &mut [u32],
-    values: &mut [f64],
-    limit: usize,
-    at: usize,
-    c: usize,
-    v: f64,
-) -> usize
-    requires room { Room limit (held rows cols values at) }
-    requires c_bound { c < 0x1_0000_0000 }
-    ensures puts { Puts limit (kept c c v) (held rows.entry cols.entry values.entry at) (held rows.exit cols.exit values.exit result) }
-    ensures most { result ≤ at + 1 }
+pub fn quad(sink: &mut Sink<'_>, c: usize, v: f64)
+    requires narrow { c < 0x1_0000_0000 }
+    requires few { sink.old.count < 0x4000_0000 }
+    ensures puts { Gains (kept c c v) sink.old sink.new }
+    ensures most { sink.new.count ≤ sink.old.count + 1 }
 {
-    a(rows, cols, values, limit, at, c, c, v)
+    a(sink, c, c, v);
 }
 
 // The linear objective's coefficient `q[c]`: adds.

@@ -8,9 +8,9 @@ ghost use Rattle.network.specs.Sites.{network_in, SiteOf};
 ghost use Rattle.raw_check.specs.Tests.{raw_long, raw_holds, raw_tests, RawAccepted};
 
 use float64::{raw_limit, within};
-use network::check::{all_within, sizes_hold};
+use network::check::all_within;
 use network::layout::counts;
-use network::{Lent, Site};
+use network::{Lent, Plan, Site};
 use opf_layout::{OpfLayout, active_of};
 use sequence::Refusal;
 
@@ -19,17 +19,16 @@ use sequence::Refusal;
 fn raw_is_long(lent: Lent<'_>, x: &[f64], z: &[f64]) -> bool
     ensures { sizes_hold (network_in lent.entry) ≡ true → result ≡ raw_long (network_in lent.entry) x.now z.now }
 {
-    let Lent {
-        wiring,
-        readings,
-        term_index,
-        term_coefficient,
-    } = lent;
-    if !sizes_hold(wiring, readings, term_index, term_coefficient) {
+    if !lent.sizes_hold() {
         return false;
     }
-    let c = counts(wiring);
-    let lay = OpfLayout::dc(c, active_of(wiring, readings, c));
+    let c = counts(lent.wiring);
+    let plan = Plan {
+        counts: c,
+        wiring: lent.wiring,
+        readings: lent.readings,
+    };
+    let lay = OpfLayout::dc(c, active_of(&plan));
     x.len() == lay.nvar && z.len() == lay.ncon
 }
 
@@ -51,7 +50,7 @@ fn raw_holds(x: &[f64], z: &[f64], raw: f64) -> bool
 pub fn accept_raw<'a>(lent: Lent<'a>, x: &[f64], z: &[f64], raw: f64) -> Result<Site<'a>, Refusal>
     ensures number { number_of result ≡ first_of (raw_tests (network_in lent.entry) x.now z.now raw) }
     ensures accepted { IfOk result (SiteOf lent.entry) }
-    ensures raw_accepted { IfOk result (λ site. RawAccepted (network_in lent.entry) x.now z.now site.counts) }
+    ensures raw_accepted { IfOk result (λ site. RawAccepted (network_in lent.entry) x.now z.now site.grid.plan.counts) }
 {
     let sizes = raw_is_long(lent, x, z);
     let site = lent.accept_with(sizes, true)?;

@@ -19,6 +19,8 @@ struct Replayed {
     same: bool,
 }
 
+// `main` and `replay` read as those of replay_opf: no crate that both use prints, and a crate of these few lines is no
+// plainer.
 fn main() {
     let mut buffer = [0; 262144];
     let read = io::read_full(STDIN_FILENO, &mut buffer);
@@ -39,6 +41,7 @@ fn same(sheet: &[u8], count: usize, recorded: &[u8]) -> bool {
 }
 
 // One case: the call on the lent slices, held against the recorded triplets.
+// The slices stay single, as the C call takes them.
 fn answered(
     wiring: &[u8],
     readings: &[u8],

@@ -7,6 +7,7 @@ ghost use Rattle.std.specs.Prelude.{◌+◌, ◌≤◌, ◌<◌, ◌≡◌, leng
 
 use capi_problem::program::capi_assemble_opf;
 use capi_problem::sheets::{capi_nodal_marginal_values, capi_read_dc_solution};
+use words::word64;
 
 // Standard input and output, as every process is given them.
 const STDIN_FILENO: i32 = 0;
@@ -20,6 +21,8 @@ struct Replayed {
     same: bool,
 }
 
+// `main` and `replay` read as those of replay_kkt: no crate that both use prints, and a crate of these few lines is no
+// plainer.
 fn main() {
     let mut buffer = [0; 262144];
     let read = io::read_full(STDIN_FILENO, &mut buffer);
@@ -34,22 +37,6 @@ fn number_at(b: &[u8], at: usize) -> usize
     usize::from(u16::from_le_bytes([b[at], b[at + 1]]))
 }
 
-// The eight bytes at a place, as a number.
-fn bits_at(b: &[u8], at: usize) -> u64
-    requires { at + 8 ≤ length b.now }
-{
-    u64::from_le_bytes([
-        b[at],
-        b[at + 1],
-        b[at + 2],
-        b[at + 3],
-        b[at + 4],
-        b[at + 5],
-        b[at + 6],
-        b[at + 7],
-    ])
-}
-
 // A minus zero among the doubles becomes a plus zero: the sign of a zero is set aside.
 fn plain_zeros(doubles: &mut [u8])
     ensures { length doubles.new ≡ length doubles.old }
@@ -57,7 +44,7 @@ fn plain_zeros(doubles: &mut [u8])
     let to = doubles.len() / 8;
     for j in 0..to {
         let at = 8 * j;
-        if bits_at(doubles, at) % 0x8000_0000_0000_0000 == 0 {
+        if word64(doubles, at) % 0x8000_0000_0000_0000 == 0 {
             doubles[at + 7] = 0;
         }
     }
@@ -91,6 +78,7 @@ fn list<'a>(
 }
 
 // The program: the call on the lent slices, held against the recorded answers.
+// Here, in `read_back` and in `answered` the slices stay single, as the C calls take them.
 fn assembled<'a>(
     wiring: &[u8],
     readings: &[u8],
@@ -247,7 +235,7 @@ fn case_at(b: &[u8]) -> Option<Replayed>
         &b[coefficient_at..x_at],
         &b[x_at..z_at],
         &b[z_at..objective_at],
-        bits_at(b, objective_at),
+        word64(b, objective_at),
         &b[recorded_at..end],
     );
     Some(Replayed { end, same })

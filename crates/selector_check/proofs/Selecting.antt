@@ -79,7 +79,7 @@ module _ (N : Network) (sizes values : Bool) (mode : Mode) (S : Selector) {i h :
         record { sized = sized z; own = and_right (selector_long S) sizes l; resolved = a; entered = entered S (dim_of N) (and_left (selector_long S) sizes l) r }
 
 -- the dimension of a site is its network's
-pub dim_in : {l : Lent} {s : Site} {d : ℕ} → SiteOf l s → d ≡ dim s.counts (pieces s.counts s.wiring.now) (linear_row_count s.counts s.wiring.now s.readings.now) → d ≡ dim_of (network_in l)
+pub dim_in : {l : Lent} {s : Site} {d : ℕ} → SiteOf l s → let p = s.grid.plan in d ≡ dim p.counts (pieces p.counts p.wiring.now) (linear_row_count p.counts p.wiring.now p.readings.now) → d ≡ dim_of (network_in l)
 dim_in o e = rw (o.counts, o.wiring, o.readings) at e
 
 -- ---- a call's own sizes and values

@@ -4,7 +4,6 @@
 ghost use Rattle.std.specs.Prelude.{◌≡◌, true, ◌*◌, length, get_or, eqb, leb, IfOk};
 ghost use Rattle.sequence.specs.Lists.{before};
 ghost use Rattle.sequence.specs.Answers.{first_of, number_of};
-ghost use Rattle.network.specs.Layout.{WiringLaid, ReadingsLaid};
 ghost use Rattle.network.specs.Numbers.{sizes_hold};
 ghost use Rattle.network.specs.Sites.{network_in, SiteOf};
 ghost use Rattle.solution.specs.Sheet.{pieces};
@@ -16,9 +15,9 @@ use contraction::Selector;
 use float64::{raw_limit, within};
 use interface::Mode;
 use kkt_index::{KktIdx, linear_rows};
-use network::check::{all_within, sizes_hold};
+use network::check::all_within;
 use network::layout::{counts, wide};
-use network::{Counts, Lent, Site};
+use network::{Lent, Plan, Site};
 use sequence::Refusal;
 use solution::piece_count;
 
@@ -37,12 +36,14 @@ pub fn is_product(a: usize, b: usize, n: usize) -> bool
 }
 
 // The dimension of the network's KKT system.
-fn dim_at(wiring: &[u32], readings: &[f64], c: Counts) -> usize
-    requires wiring_laid { WiringLaid c wiring.now }
-    requires readings_laid { ReadingsLaid c readings.now }
-    ensures { result ≡ dim c (pieces c wiring.now) (linear_row_count c wiring.now readings.now) }
+fn dim_at(plan: &Plan<'_>) -> usize
+    ensures { result ≡ dim plan.now.counts (pieces plan.now.counts plan.now.wiring.now) (linear_row_count plan.now.counts plan.now.wiring.now plan.now.readings.now) }
 {
-    let x = KktIdx::new(c, piece_count(wiring, c), linear_rows(wiring, readings, c));
+    let x = KktIdx::new(
+        plan.counts,
+        piece_count(plan.wiring, plan.counts),
+        linear_rows(plan),
+    );
     x.dim
 }
 
@@ -50,23 +51,22 @@ fn dim_at(wiring: &[u32], readings: &[f64], c: Counts) -> usize
 pub fn dim_of(lent: Lent<'_>) -> usize
     ensures { sizes_hold (network_in lent.entry) ≡ true → result ≡ dim_of (network_in lent.entry) }
 {
-    let Lent {
-        wiring,
-        readings,
-        term_index,
-        term_coefficient,
-    } = lent;
-    if !sizes_hold(wiring, readings, term_index, term_coefficient) {
+    if !lent.sizes_hold() {
         return 0;
     }
-    dim_at(wiring, readings, counts(wiring))
+    let plan = Plan {
+        counts: counts(lent.wiring),
+        wiring: lent.wiring,
+        readings: lent.readings,
+    };
+    dim_at(&plan)
 }
 
 // The same of an accepted network.
 pub fn site_dim(site: Site<'_>) -> usize
-    ensures { result ≡ dim site.entry.counts (pieces site.entry.counts site.entry.wiring.now) (linear_row_count site.entry.counts site.entry.wiring.now site.entry.readings.now) }
+    ensures { result ≡ dim site.entry.grid.plan.counts (pieces site.entry.grid.plan.counts site.entry.grid.plan.wiring.now) (linear_row_count site.entry.grid.plan.counts site.entry.grid.plan.wiring.now site.entry.grid.plan.readings.now) }
 {
-    dim_at(site.wiring, site.readings, site.counts)
+    dim_at(&site.grid.plan)
 }
 
 // Whether the counts sum to n. They are taken off n one after the other, so that no sum wraps.

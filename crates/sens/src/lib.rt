@@ -20,10 +20,7 @@ use sequence::{Answer, Refusal};
 fn count_fits(mode: Mode, dim: usize, columns: usize) -> bool
     ensures { result ≡ count_fits mode dim columns }
 {
-    match mode {
-        Mode::Forward => fits(dim, columns, usize::MAX),
-        Mode::Adjoint | Mode::Auto => true,
-    }
+    mode != Mode::Forward || fits(dim, columns, usize::MAX)
 }
 
 // The first call's network, where none of its numbers is due but its output's room.
@@ -96,7 +93,7 @@ pub fn right_side<'a>(
     }
 }
 
-// Whether the solved columns are as long as they should be.
+// Whether the solved columns are as long as they should be, by the mode's rule; `Auto` has none.
 fn solved_is_long(mode: Mode, dim: usize, columns: usize, elements: usize, n: usize) -> bool
     ensures { result ≡ solved_long mode dim columns elements n }
 {

@@ -3,8 +3,6 @@
 
 ghost use Rattle.std.specs.Prelude.{◌≡◌, []};
 ghost use Rattle.sequence.specs.Sheets.{lays_if, listed, room};
-ghost use Rattle.network.specs.Layout.{ReadingsLaid};
-ghost use Rattle.network.specs.Numbers.{Wired, Termed};
 ghost use Rattle.network.specs.Sites.{network_in};
 ghost use Rattle.solution.specs.Sheet.{pieces, SheetLaid};
 ghost use Rattle.kkt.specs.Slots.Rule.{first_place};
@@ -13,110 +11,76 @@ ghost use Rattle.sens_dc.specs.Calls.{matrix_call};
 
 use kkt_laws::most;
 use kkt_list::put_kkt;
-use network::{Counts, Lent};
-use sequence::{Answer, Refusal, room};
+use network::{Lent, Site};
+use sequence::{Answer, Refusal, Sink, room};
 use solution_check::accept_solution;
 
 // The list where the sheets, of which the shortest holds `cap`, hold it: counted first, then written.
+// Here and in `lay_kkt` the sheets stay single: a sink is made of them, with its limit.
 fn lay_counted(
-    wiring: &[u32],
-    readings: &[f64],
-    term_index: &[u32],
-    term_coefficient: &[f64],
+    site: &Site<'_>,
     solution: &[f64],
-    c: Counts,
     rows: &mut [u32],
     cols: &mut [u32],
     values: &mut [f64],
     cap: usize,
 ) -> Answer
-    requires wired { Wired c wiring.now }
-    requires readings_laid { ReadingsLaid c readings.now }
-    requires termed { Termed c wiring.now term_index.now term_coefficient.now }
-    requires sheet_laid { SheetLaid c (pieces c wiring.now) solution.now }
+    requires sheet_laid { SheetLaid site.now.grid.plan.counts (pieces site.now.grid.plan.counts site.now.grid.plan.wiring.now) solution.now }
     requires cap_value { cap ≡ room rows.old cols.old values.old }
-    ensures { listed result rows.new cols.new values.new ≡ lays_if (kkt_matrix_list first_place c wiring.now readings.now term_index.now term_coefficient.now solution.now) rows.old cols.old values.old }
+    ensures { listed result rows.new cols.new values.new ≡ lays_if (kkt_matrix_list first_place site.now.grid.plan.counts site.now.grid.plan.wiring.now site.now.grid.plan.readings.now site.now.term_index.now site.now.term_coefficient.now solution.now) rows.old cols.old values.old }
 {
-    let count = put_kkt(
-        wiring,
-        readings,
-        term_index,
-        term_coefficient,
-        solution,
-        c,
-        rows,
-        cols,
-        values,
-        0,
-    );
+    let mut counted = Sink {
+        rows: &mut *rows,
+        cols: &mut *cols,
+        values: &mut *values,
+        limit: 0,
+        count: 0,
+    };
+    put_kkt(site, solution, &mut counted);
+    let count = counted.count;
     if cap < count {
         return Err(Refusal::Short);
     }
-    let done = put_kkt(
-        wiring,
-        readings,
-        term_index,
-        term_coefficient,
-        solution,
-        c,
+    let mut written = Sink {
         rows,
         cols,
         values,
-        count,
-    );
-    Ok(done)
+        limit: count,
+        count: 0,
+    };
+    put_kkt(site, solution, &mut written);
+    Ok(written.count)
 }
 
 // The same in one pass where the sheets hold the most triplets that the list can have.
 pub fn lay_kkt(
-    wiring: &[u32],
-    readings: &[f64],
-    term_index: &[u32],
-    term_coefficient: &[f64],
+    site: &Site<'_>,
     solution: &[f64],
-    c: Counts,
     rows: &mut [u32],
     cols: &mut [u32],
     values: &mut [f64],
 ) -> Answer
-    requires wired { Wired c wiring.now }
-    requires readings_laid { ReadingsLaid c readings.now }
-    requires termed { Termed c wiring.now term_index.now term_coefficient.now }
-    requires sheet_laid { SheetLaid c (pieces c wiring.now) solution.now }
-    ensures { listed result rows.new cols.new values.new ≡ lays_if (kkt_matrix_list first_place c wiring.now readings.now term_index.now term_coefficient.now solution.now) rows.old cols.old values.old }
+    requires { SheetLaid site.now.grid.plan.counts (pieces site.now.grid.plan.counts site.now.grid.plan.wiring.now) solution.now }
+    ensures { listed result rows.new cols.new values.new ≡ lays_if (kkt_matrix_list first_place site.now.grid.plan.counts site.now.grid.plan.wiring.now site.now.grid.plan.readings.now site.now.term_index.now site.now.term_coefficient.now solution.now) rows.old cols.old values.old }
 {
     let cap = room(rows, cols, values);
-    let bound = most(c);
-    if bound <= cap {
-        let count = put_kkt(
-            wiring,
-            readings,
-            term_index,
-            term_coefficient,
-            solution,
-            c,
-            rows,
-            cols,
-            values,
-            bound,
-        );
-        return Ok(count);
+    let bound = most(site.grid.plan.counts);
+    if cap < bound {
+        return lay_counted(site, solution, rows, cols, values, cap);
     }
-    lay_counted(
-        wiring,
-        readings,
-        term_index,
-        term_coefficient,
-        solution,
-        c,
+    let mut sink = Sink {
         rows,
         cols,
         values,
-        cap,
-    )
+        limit: bound,
+        count: 0,
+    };
+    put_kkt(site, solution, &mut sink);
+    Ok(sink.count)
 }
 
 // The KKT matrix of a network at its solution sheet, snapped, as triplets in the original's order.
+// The sheets stay single, as C lends them.
 pub fn kkt_triplets(
     lent: Lent<'_>,
     solution: &[f64],
@@ -127,15 +91,5 @@ pub fn kkt_triplets(
     ensures { listed result rows.new cols.new values.new ≡ matrix_call first_place [] (network_in lent.entry) solution.now rows.old cols.old values.old }
 {
     let site = accept_solution(lent, solution, false)?;
-    lay_kkt(
-        site.wiring,
-        site.readings,
-        site.term_index,
-        site.term_coefficient,
-        solution,
-        site.counts,
-        rows,
-        cols,
-        values,
-    )
+    lay_kkt(&site, solution, rows, cols, values)
 }

@@ -63,7 +63,7 @@ pub fn served_of(o: Operand) -> Option<Reported>
     }
 }
 
-// The rows of a block.
+// The rows of a block: each word is made of its index, so a loop over the indexes is as plain as one over the words.
 fn put_rows(rows: &mut [u32], start: usize, n: usize)
     requires { (n ≤ length rows.old) × (start ≤ 0x1_0000) × (n ≤ 512) }
     ensures { rows.new ≡ front (made (λ i. start + i) n) rows.old }
@@ -75,11 +75,11 @@ fn put_rows(rows: &mut [u32], start: usize, n: usize)
 
 // Where the rows of an operand start.
 fn start_of(site: Site<'_>, k: Reported) -> usize
-    ensures { (result ≡ start_of site.entry.counts site.entry.wiring.now site.entry.readings.now k) × (result ≤ 0x1_0000) }
+    ensures { (result ≡ start_of site.entry.grid.plan.counts site.entry.grid.plan.wiring.now site.entry.grid.plan.readings.now k) × (result ≤ 0x1_0000) }
 {
-    let l = linear_rows(site.wiring, site.readings, site.counts);
-    let p = piece_count(site.wiring, site.counts);
-    KktIdx::new(site.counts, p, l).start(k.block())
+    let l = linear_rows(&site.grid.plan);
+    let p = piece_count(site.grid.plan.wiring, site.grid.plan.counts);
+    KktIdx::new(site.grid.plan.counts, p, l).start(k.block())
 }
 
 // Whether one of the four sheets has no room for so many elements.
@@ -117,9 +117,9 @@ fn lay_selector(
     rows: &mut [u32],
     weights: &mut [f64],
 ) -> Answer
-    ensures { selected (number_of result) (count_of result) (selection sign.new counts.new rows.new weights.new) ≡ served_laid site.entry.counts site.entry.wiring.now site.entry.readings.now k (selection sign.old counts.old rows.old weights.old) }
+    ensures { selected (number_of result) (count_of result) (selection sign.new counts.new rows.new weights.new) ≡ served_laid site.entry.grid.plan.counts site.entry.grid.plan.wiring.now site.entry.grid.plan.readings.now k (selection sign.old counts.old rows.old weights.old) }
 {
-    let n = k.elements(site.counts);
+    let n = k.elements(site.grid.plan.counts);
     if is_short(n, sign.len(), counts.len(), rows.len(), weights.len()) {
         return Err(Refusal::Short);
     }

@@ -3,22 +3,21 @@
 
 ghost use Rattle.std.specs.Prelude.{◌≡◌, ℕ, ◌*◌, ◌<◌, length, get_or, ltb, IfOk};
 ghost use Rattle.sequence.specs.Answers.{number_of, answered};
-ghost use Rattle.network.specs.Layout.{WiringLaid};
 ghost use Rattle.network.specs.Sites.{network_in};
 ghost use Rattle.solution.specs.Sheet.{pieces, SheetLaid};
 ghost use Rattle.parameter_column.specs.Columns.{elements};
-ghost use Rattle.parameter_sheet.specs.Sheet.{jacobian};
+ghost use Rattle.parameter_sheet.specs.Sites.{jacobian_in};
 ghost use Rattle.sens_parameters.specs.Calls.{served_of, columns_hold, is_cost, some_piecewise, columns_number, served_number, columns_filled, columns_laid, jacobian_call};
 
 use interface::{CostTerm, GB, Parameter, Power};
 use kkt_index::{KktIdx, linear_rows};
-use network::layout::{wide, word};
-use network::{Counts, Lent, Part, Site};
+use network::layout::wide;
+use network::{Counts, Lent, Part, Plan, Site};
 use parameter_column::Served;
 use parameter_sheet::fill_sheet;
 use sens_snap::duals::nu_flow_into;
 use sequence::{Answer, Refusal};
-use solution::piece_count;
+use solution::{OperatingPoint, piece_count};
 use solution_check::accept_solution;
 
 // Active demand, the two costs, line limit, susceptance, switching and constraint limit are served.
@@ -63,13 +62,12 @@ fn columns_hold(c: Counts, k: Served, columns: &[u32]) -> bool
 }
 
 // Whether one of the generators has a piecewise cost.
-fn some_piecewise(wiring: &[u32], c: Counts, columns: &[u32]) -> bool
-    requires wiring_laid { WiringLaid c wiring.now }
-    requires by_index { (t : ℕ) → t < length columns.now → get_or columns.now t 0 < c.generators }
-    ensures { result ≡ some_piecewise c wiring.now columns.now }
+fn some_piecewise(plan: &Plan<'_>, columns: &[u32]) -> bool
+    requires { (t : ℕ) → t < length columns.now → get_or columns.now t 0 < plan.now.counts.generators }
+    ensures { result ≡ some_piecewise plan.now.counts plan.now.wiring.now columns.now }
 {
     for column in columns {
-        if word(wiring, c, Part::Segments, wide(*column)) != 0 {
+        if plan.word(Part::Segments, wide(*column)) != 0 {
             return true;
         }
     }
@@ -91,15 +89,14 @@ fn is_short(room: usize, count: usize, dim: usize) -> bool
 }
 
 // The columns are a parameter's elements, and a cost's are not piecewise.
-fn accept_columns(wiring: &[u32], c: Counts, k: Served, columns: &[u32]) -> Result<(), Refusal>
-    requires { WiringLaid c wiring.now }
-    ensures number { number_of result ≡ columns_number c wiring.now k columns.now }
-    ensures by_index { IfOk result (λ ok. (t : ℕ) → t < length columns.now → get_or columns.now t 0 < elements c k) }
+fn accept_columns(plan: &Plan<'_>, k: Served, columns: &[u32]) -> Result<(), Refusal>
+    ensures number { number_of result ≡ columns_number plan.now.counts plan.now.wiring.now k columns.now }
+    ensures by_index { IfOk result (λ ok. (t : ℕ) → t < length columns.now → get_or columns.now t 0 < elements plan.now.counts k) }
 {
-    if !columns_hold(c, k, columns) {
+    if !columns_hold(plan.counts, k, columns) {
         return Err(Refusal::Element);
     }
-    if is_cost(k) && some_piecewise(wiring, c, columns) {
+    if is_cost(k) && some_piecewise(plan, columns) {
         return Err(Refusal::Piecewise);
     }
     Ok(())
@@ -113,27 +110,23 @@ fn lay_columns(
     columns: &[u32],
     sheet: &mut [f64],
 ) -> Answer
-    requires sheet_laid { SheetLaid site.counts (pieces site.counts site.wiring.now) solution.now }
-    requires by_index { (t : ℕ) → t < length columns.now → get_or columns.now t 0 < elements site.counts k }
-    ensures { answered result sheet.new ≡ columns_laid columns.now (jacobian site.entry.counts site.entry.wiring.now site.entry.term_index.now site.entry.term_coefficient.now (pieces site.entry.counts site.entry.wiring.now) site.entry.readings.now solution.now k columns.now) sheet.old }
+    requires sheet_laid { SheetLaid site.grid.plan.counts (pieces site.grid.plan.counts site.grid.plan.wiring.now) solution.now }
+    requires by_index { (t : ℕ) → t < length columns.now → get_or columns.now t 0 < elements site.grid.plan.counts k }
+    ensures { answered result sheet.new ≡ columns_laid columns.now (jacobian_in site.entry (pieces site.entry.grid.plan.counts site.entry.grid.plan.wiring.now) solution.now k columns.now) sheet.old }
 {
-    let p = piece_count(site.wiring, site.counts);
-    let l = linear_rows(site.wiring, site.readings, site.counts);
-    let idx = KktIdx::new(site.counts, p, l);
+    let p = piece_count(site.grid.plan.wiring, site.grid.plan.counts);
+    let l = linear_rows(&site.grid.plan);
+    let idx = KktIdx::new(site.grid.plan.counts, p, l);
     if is_short(sheet.len(), columns.len(), idx.dim) {
         return Err(Refusal::Short);
     }
     let mut nu_flow = [0.0; 512];
-    nu_flow_into(
-        site.wiring,
-        site.readings,
-        site.term_index,
-        site.term_coefficient,
-        solution,
-        site.counts,
-        p,
-        &mut nu_flow,
-    );
+    let point = OperatingPoint {
+        grid: site.grid,
+        pieces: p,
+        sheet: solution,
+    };
+    nu_flow_into(&point, site.term_index, site.term_coefficient, &mut nu_flow);
     fill_sheet(site, solution, &nu_flow, idx, k, columns, sheet);
     Ok(columns.len())
 }
@@ -146,10 +139,10 @@ fn served_columns(
     columns: &[u32],
     sheet: &mut [f64],
 ) -> Answer
-    requires sheet_laid { SheetLaid site.counts (pieces site.counts site.wiring.now) solution.now }
-    ensures { answered result sheet.new ≡ columns_filled (served_number site.entry.counts site.entry.wiring.now site.entry.term_index.now site.entry.term_coefficient.now site.entry.readings.now solution.now k columns.now sheet.old) columns.now (jacobian site.entry.counts site.entry.wiring.now site.entry.term_index.now site.entry.term_coefficient.now (pieces site.entry.counts site.entry.wiring.now) site.entry.readings.now solution.now k columns.now) sheet.old }
+    requires sheet_laid { SheetLaid site.grid.plan.counts (pieces site.grid.plan.counts site.grid.plan.wiring.now) solution.now }
+    ensures { answered result sheet.new ≡ columns_filled (served_number site.entry.grid.plan.counts site.entry.grid.plan.wiring.now site.entry.term_index.now site.entry.term_coefficient.now site.entry.grid.plan.readings.now solution.now k columns.now sheet.old) columns.now (jacobian_in site.entry (pieces site.entry.grid.plan.counts site.entry.grid.plan.wiring.now) solution.now k columns.now) sheet.old }
 {
-    accept_columns(site.wiring, site.counts, k, columns)?;
+    accept_columns(&site.grid.plan, k, columns)?;
     lay_columns(site, solution, k, columns, sheet)
 }
 

@@ -8,7 +8,7 @@ use crate::duals::{nu_flow_into, snap_linear_into};
 use crate::sheet::snap_into;
 use network::Lent;
 use sequence::{Answer, Refusal};
-use solution::piece_count;
+use solution::{OperatingPoint, piece_count};
 use solution_check::accept_solution;
 
 // The solution sheet snapped to strict complementarity.
@@ -20,15 +20,13 @@ pub fn snap(lent: Lent<'_>, solution: &[f64], out: &mut [f64]) -> Answer
     if out.len() < count {
         return Err(Refusal::Short);
     }
-    let pieces = piece_count(site.wiring, site.counts);
-    snap_into(
-        site.wiring,
-        site.readings,
-        solution,
-        site.counts,
+    let pieces = piece_count(site.grid.plan.wiring, site.grid.plan.counts);
+    let point = OperatingPoint {
+        grid: site.grid,
         pieces,
-        out,
-    );
+        sheet: solution,
+    };
+    snap_into(&point, out);
     Ok(count)
 }
 
@@ -37,21 +35,17 @@ pub fn snap_linear(lent: Lent<'_>, solution: &[f64], out: &mut [f64]) -> Answer
     ensures { answered result out.new ≡ snap_linear_call (network_in lent.entry) solution.now out.old }
 {
     let site = accept_solution(lent, solution, true)?;
-    let count = 3 * site.counts.rows;
+    let count = 3 * site.grid.plan.counts.rows;
     if out.len() < count {
         return Err(Refusal::Short);
     }
-    let pieces = piece_count(site.wiring, site.counts);
-    snap_linear_into(
-        site.wiring,
-        site.readings,
-        site.term_index,
-        site.term_coefficient,
-        solution,
-        site.counts,
+    let pieces = piece_count(site.grid.plan.wiring, site.grid.plan.counts);
+    let point = OperatingPoint {
+        grid: site.grid,
         pieces,
-        out,
-    );
+        sheet: solution,
+    };
+    snap_linear_into(&point, site.term_index, site.term_coefficient, out);
     Ok(count)
 }
 
@@ -60,20 +54,16 @@ pub fn nu_flow_values(lent: Lent<'_>, solution: &[f64], out: &mut [f64]) -> Answ
     ensures { answered result out.new ≡ nu_flow_call (network_in lent.entry) solution.now out.old }
 {
     let site = accept_solution(lent, solution, true)?;
-    let count = site.counts.branches;
+    let count = site.grid.plan.counts.branches;
     if out.len() < count {
         return Err(Refusal::Short);
     }
-    let pieces = piece_count(site.wiring, site.counts);
-    nu_flow_into(
-        site.wiring,
-        site.readings,
-        site.term_index,
-        site.term_coefficient,
-        solution,
-        site.counts,
+    let pieces = piece_count(site.grid.plan.wiring, site.grid.plan.counts);
+    let point = OperatingPoint {
+        grid: site.grid,
         pieces,
-        out,
-    );
+        sheet: solution,
+    };
+    nu_flow_into(&point, site.term_index, site.term_coefficient, out);
     Ok(count)
 }

@@ -1,48 +1,30 @@
 // The snapped sheet, entry by entry.
-ghost use Rattle.std.specs.Prelude.{◌≡◌, ◌+◌, ◌<◌, ◌≤◌, length, get_or};
+ghost use Rattle.std.specs.Prelude.{◌≡◌, ◌+◌, ◌<◌, ◌≤◌, length};
 ghost use Rattle.std.proofs.lemmas.List.Edits.{sets};
 ghost use Rattle.sequence.specs.Lists.{each, front};
-ghost use Rattle.network.specs.Layout.{ReadingsLaid, segments_at, segment_start};
-ghost use Rattle.network.specs.Numbers.{Wired};
+ghost use Rattle.network.specs.Layout.{segments_at, segment_start};
 ghost use Rattle.solution.specs.declared.Entry.TheVariants.{Va};
-ghost use Rattle.solution.specs.Sheet.{entries, size, pieces, piece_rank, sheet_length, SheetLaid};
-ghost use Rattle.snapping.specs.Snap.{segment_words, plain_words, entry_words, snap_sheet};
+ghost use Rattle.solution.specs.Sheet.{size, piece_rank, sheet_length};
+ghost use Rattle.sens_snap.specs.Points.{PiecesAre, segment_words_at, plain_words_at, entry_words_at, snap_sheet_at};
 
-use network::layout::word;
-use network::{Counts, Part};
+use network::Part;
 use snapping::{segment_dual, snapped_at};
-use solution::{Entry, entry_size, next_piece};
+use solution::{Entry, OperatingPoint, entry_size, next_piece};
 
 // An entry's words by index, from a place on.
-fn put_words(
-    wiring: &[u32],
-    readings: &[f64],
-    sheet: &[f64],
-    c: Counts,
-    p: usize,
-    e: Entry,
-    out: &mut [f64],
-    at: usize,
-)
-    requires wired { Wired c wiring.now }
-    requires readings_laid { ReadingsLaid c readings.now }
-    requires sheet_laid { SheetLaid c p sheet.now }
-    requires e_in_bounds { (at + size c p e ≤ length out.old) × (at < 0x1_0000) }
-    ensures { out.new ≡ sets out.old at (plain_words c wiring.now p readings.now sheet.now e) }
+fn put_words(point: &OperatingPoint<'_>, e: Entry, out: &mut [f64], at: usize)
+    requires { (at + size point.now.grid.plan.counts point.now.pieces e ≤ length out.old) × (at < 0x1_0000) }
+    ensures { out.new ≡ sets out.old at (plain_words_at point.now e) }
 {
-    let to = entry_size(c, p, e);
+    let to = entry_size(point.grid.plan.counts, point.pieces, e);
     for i in 0..to {
-        out[at + i] = snapped_at(wiring, readings, sheet, c, p, e, i);
+        out[at + i] = snapped_at(point, e, i);
     }
 }
 
 // The segment duals of generator j, whose epigraph is of rank g and whose segments are `count` from `start` on.
 fn put_generator_duals(
-    wiring: &[u32],
-    readings: &[f64],
-    sheet: &[f64],
-    c: Counts,
-    p: usize,
+    point: &OperatingPoint<'_>,
     j: usize,
     g: usize,
     start: usize,
@@ -50,77 +32,49 @@ fn put_generator_duals(
     out: &mut [f64],
     at: usize,
 )
-    requires wired { Wired c wiring.now }
-    requires readings_laid { ReadingsLaid c readings.now }
-    requires sheet_laid { SheetLaid c p sheet.now }
-    requires j_lt_generators { (j < c.generators) × (p ≡ pieces c wiring.now) × (g ≡ piece_rank c wiring.now j) × (start ≡ segment_start c wiring.now j) × (count ≡ segments_at c wiring.now j) }
+    requires j_lt_generators { (j < point.now.grid.plan.counts.generators) × (PiecesAre point.now) × (g ≡ piece_rank point.now.grid.plan.counts point.now.grid.plan.wiring.now j) × (start ≡ segment_start point.now.grid.plan.counts point.now.grid.plan.wiring.now j) × (count ≡ segments_at point.now.grid.plan.counts point.now.grid.plan.wiring.now j) }
     requires count_in_bounds { (at + count ≤ length out.old) × (at < 0x2_0000) }
-    ensures { out.new ≡ sets out.old at (segment_words c wiring.now p readings.now sheet.now j) }
+    ensures { out.new ≡ sets out.old at (segment_words_at point.now j) }
 {
+    let plan = point.grid.plan;
     for t in 0..count {
-        out[at + t] = segment_dual(readings, sheet, c, p, j, g, start + t);
+        let s = start + t;
+        out[at + t] = segment_dual(
+            plan.readings,
+            point.sheet,
+            plan.counts,
+            point.pieces,
+            j,
+            g,
+            s,
+        );
     }
 }
 
 // Every generator's segment duals, from a place on.
-fn put_segment_duals(
-    wiring: &[u32],
-    readings: &[f64],
-    sheet: &[f64],
-    c: Counts,
-    p: usize,
-    out: &mut [f64],
-    at: usize,
-)
-    requires wired { Wired c wiring.now }
-    requires readings_laid { ReadingsLaid c readings.now }
-    requires sheet_laid { SheetLaid c p sheet.now }
-    requires p_value { (p ≡ pieces c wiring.now) × (at + c.segments ≤ length out.old) × (at < 0x1_0000) }
-    ensures { out.new ≡ sets out.old at (each c.generators (segment_words c wiring.now p readings.now sheet.now)) }
+fn put_segment_duals(point: &OperatingPoint<'_>, out: &mut [f64], at: usize)
+    requires { (PiecesAre point.now) × (at + point.now.grid.plan.counts.segments ≤ length out.old) × (at < 0x1_0000) }
+    ensures { out.new ≡ sets out.old at (each point.now.grid.plan.counts.generators (segment_words_at point.now)) }
 {
-    let to = c.generators;
+    let to = point.grid.plan.counts.generators;
     let mut g = 0;
     let mut start = 0;
     for j in 0..to {
-        let count = word(wiring, c, Part::Segments, j);
-        put_generator_duals(
-            wiring,
-            readings,
-            sheet,
-            c,
-            p,
-            j,
-            g,
-            start,
-            count,
-            out,
-            at + start,
-        );
+        let count = point.grid.word(Part::Segments, j);
+        put_generator_duals(point, j, g, start, count, out, at + start);
         g = next_piece(g, count);
         start += count;
     }
 }
 
 // An entry's words from a place on.
-fn put_entry(
-    wiring: &[u32],
-    readings: &[f64],
-    sheet: &[f64],
-    c: Counts,
-    p: usize,
-    e: Entry,
-    out: &mut [f64],
-    at: usize,
-)
-    requires wired { Wired c wiring.now }
-    requires readings_laid { ReadingsLaid c readings.now }
-    requires sheet_laid { SheetLaid c p sheet.now }
-    requires p_value { (p ≡ pieces c wiring.now) × (at + size c p e ≤ length out.old) × (at < 0x1_0000) }
-    ensures { out.new ≡ sets out.old at (entry_words c wiring.now p readings.now sheet.now e) }
+fn put_entry(point: &OperatingPoint<'_>, e: Entry, out: &mut [f64], at: usize)
+    requires { (PiecesAre point.now) × (at + size point.now.grid.plan.counts point.now.pieces e ≤ length out.old) × (at < 0x1_0000) }
+    ensures { out.new ≡ sets out.old at (entry_words_at point.now e) }
 {
     match e {
-        Entry::SegmentDual => put_segment_duals(wiring, readings, sheet, c, p, out, at),
-        _ => put_words(wiring, readings, sheet, c, p, e, out, at),
+        Entry::SegmentDual => put_segment_duals(point, out, at),
+        _ => put_words(point, e, out, at),
     }
 }
 
@@ -147,24 +101,14 @@ const ENTRIES: [Entry; 18] = [
 ];
 
 // The whole snapped sheet into the front of another.
-pub fn snap_into(
-    wiring: &[u32],
-    readings: &[f64],
-    sheet: &[f64],
-    c: Counts,
-    p: usize,
-    out: &mut [f64],
-)
-    requires wired { Wired c wiring.now }
-    requires readings_laid { ReadingsLaid c readings.now }
-    requires sheet_laid { SheetLaid c p sheet.now }
-    requires p_value { (p ≡ pieces c wiring.now) × (sheet_length c p ≤ length out.old) }
-    ensures out_after { out.new ≡ front (snap_sheet c wiring.now p readings.now sheet.now) out.old }
-    ensures sheet_len { length (snap_sheet c wiring.now p readings.now sheet.now) ≡ sheet_length c p }
+pub fn snap_into(point: &OperatingPoint<'_>, out: &mut [f64])
+    requires { (PiecesAre point.now) × (sheet_length point.now.grid.plan.counts point.now.pieces ≤ length out.old) }
+    ensures out_after { out.new ≡ front (snap_sheet_at point.now) out.old }
+    ensures sheet_len { length (snap_sheet_at point.now) ≡ sheet_length point.now.grid.plan.counts point.now.pieces }
 {
     let mut at = 0;
     for e in &ENTRIES {
-        put_entry(wiring, readings, sheet, c, p, *e, out, at);
-        at += entry_size(c, p, *e);
+        put_entry(point, *e, out, at);
+        at += entry_size(point.grid.plan.counts, point.pieces, *e);
     }
 }

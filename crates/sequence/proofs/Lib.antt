@@ -6,3 +6,5 @@ pub mod Blocks
 pub mod Answers
 pub mod Sheets
 pub mod Links
+pub mod Sums
+pub mod Sinks

@@ -11,9 +11,10 @@ use borrow.Author.Tests.{eq-eqb, ne_eqb}
 use Rattle.sequence.specs.Lists.{each, when}
 use Rattle.sequence.specs.Links.{First, Links}
 use Rattle.sequence.specs.declared.Triplet.{Triplet}
-use Rattle.sequence.specs.Sheets.{Sheets, Puts}
+use Rattle.sequence.specs.declared.Sink.{Sink}
+use Rattle.sequence.specs.Sinks.{Gains}
 use Rattle.sequence.proofs.Lists.{each_skip, each_more, stored_at}
-use Rattle.sequence.proofs.Sheets.{none, then}
+use Rattle.sequence.proofs.Sinks.{none, then}
 
 -- one word more is filled
 pub filled_more : {A : Type 0} (l : List A) (v : A) (j : ℕ) (d : A) → j < length l → ((x : ℕ) → x < j → get_or l x d ≡ v) → (x : ℕ) → x < j + 1 → get_or (set l j v) x d ≡ v
@@ -68,11 +69,11 @@ module _ {A : Type 0} (key : ℕ → ℕ) (j : ℕ) (g : ℕ → List A) where
   scan_hit {x} e = each_more _ x ∙ rw (eq-eqb (key x) j e)
 
 -- a walk of a chain begins at its head, and goes on by next
-module _ {l : ℕ} (key : ℕ → ℕ) (j : ℕ) (g : ℕ → List Triplet) {S₀ : Sheets} where
-  pub walk_begin : {c z : ℕ} → First key c j 0 z → Puts l (scan key j g z) S₀ S₀
+module _ (key : ℕ → ℕ) (j : ℕ) (g : ℕ → List Triplet) {S₀ : Sink} where
+  pub walk_begin : {c z : ℕ} → First key c j 0 z → Gains (scan key j g z) S₀ S₀
   unfolding each
   walk_begin f = rw (scan_skip key j g f) none
 
-  pub walk_more : {c x z : ℕ} {S₁ S₂ : Sheets} → key x ≡ j → First key c j (x + 1) z
-      → Puts l (scan key j g x) S₀ S₁ → Puts l (g x) S₁ S₂ → Puts l (scan key j g z) S₀ S₂
+  pub walk_more : {c x z : ℕ} {S₁ S₂ : Sink} → key x ≡ j → First key c j (x + 1) z
+      → Gains (scan key j g x) S₀ S₁ → Gains (g x) S₁ S₂ → Gains (scan key j g z) S₀ S₂
   walk_more e f p q = rw (scan_skip key j g f, scan_hit key j g e) (then p q)

@@ -15,7 +15,7 @@ use borrow.Author.Tests.{lt-ltb, le-ltb, ne_eqb}
 use Rattle.std.specs.Prelude.{Option}
 use Rattle.sequence.specs.Lists.{each, front, when}
 use Rattle.sequence.specs.declared.Triplet.{Triplet}
-use Rattle.sequence.specs.Sheets.{triplet, item, emit, rows_of, cols_of, values_of, Sheets, sheets, put1, puts, Puts, Room, laid, lays, lays_if, room}
+use Rattle.sequence.specs.Sheets.{triplet, item, emit, rows_of, cols_of, values_of, Sheets, sheets, put1, puts, Puts, laid, lays, lays_if, room}
 use Rattle.sequence.proofs.Lists.{each_more}
 
 puts_append : (l : ℕ) (S : Sheets) (a b : List Triplet) → puts l S (a ++ b) ≡ puts l (puts l S a) b
@@ -57,15 +57,6 @@ emit_item false r c v = refl
 -- an item that was put is the item that the specification names
 pub put_of : {l : ℕ} {S₀ S₁ : Sheets} {t u : Option Triplet} → t ≡ u → Puts l (emit t) S₀ S₁ → Puts l (emit u) S₀ S₁
 put_of e p = rw e at p
-
--- the sheets' room after a list was put
-pub room_kept : {l : ℕ} {ts : List Triplet} {S₀ S₁ : Sheets} → Room l S₀ → Puts l ts S₀ S₁ → S₁.at < 0x4000_0000 → Room l S₁
-room_kept r p h = record {
-  in_rows = omega (arith, r.in_rows, p.rows_kept);
-  in_cols = omega (arith, r.in_cols, p.cols_kept);
-  in_values = omega (arith, r.in_values, p.values_kept);
-  far = h;
-}
 
 -- ---- a counting pass, below no place: nothing is stored
 
@@ -152,12 +143,3 @@ pub lays_twice : {ts : List Triplet} {R C R' C' R'' C'' : List ℕ} {X X' X'' : 
 lays_twice {ts} {R} {C} {X = X} p q e h =
     let s : length ts ≤ room R C X = rw (e, (counted p).0) at h in
     twice (rw (le-ltb (room R C X) (length ts) s)) p q (rw e at h)
-
--- what was counted fits the sheets, as the counting pass left them
-pub room_after : {ts : List Triplet} {R C R' C' : List ℕ} {X X' : List Float} {k l : ℕ} → Puts 0 ts (sheets R C X 0) (sheets R' C' X' k) → l ≡ room R C X → k ≤ l → Room k (sheets R' C' X' 0)
-room_after p e h = record {
-  in_rows = omega (arith, p.rows_kept);
-  in_cols = omega (arith, p.cols_kept);
-  in_values = omega (arith, p.values_kept);
-  far = omega arith;
-}

@@ -5,3 +5,4 @@ pub mod Layout
 pub mod Answers
 pub mod Sheets
 pub mod Links
+pub mod Sinks

@@ -1,5 +1,5 @@
 -- A list of triplets in three lent sheets: rows, columns and values. Assumes nothing.
-use Rattle.std.specs.Prelude.{ℕ, ◌+◌, ◌≤◌, ◌<◌, min, Bool, cond, List, [], ◌∷◌, map, ◌≡◌, length, set, eqb, ltb, Float, Option, Some, None, Result}
+use Rattle.std.specs.Prelude.{ℕ, ◌+◌, ◌≤◌, min, Bool, cond, List, [], ◌∷◌, map, ◌≡◌, length, set, eqb, ltb, Float, Option, Some, None, Result}
 use Rattle.std.specs.Borrow.{MutBor}
 use Rattle.sequence.specs.declared.Refusal.{Refusal}
 use Rattle.sequence.specs.Answers.{number_of, count_of}
@@ -63,11 +63,11 @@ pub record Puts (l : ℕ) (ts : List Triplet) (S₀ S₁ : Sheets) : Type 0 wher
   pub values_kept : length S₁.values ≡ length S₀.values
 
 -- the limit lies within the sheets, and the count is far from wrapping
-pub record Room (l : ℕ) (S : Sheets) : Type 0 where
+pub record Fits (l : ℕ) (S : Sheets) : Type 0 where
   pub in_rows : l ≤ length S.rows
   pub in_cols : l ≤ length S.cols
   pub in_values : l ≤ length S.values
-  pub far : S.at < 0x4000_0000
+  pub far : S.at ≤ 0x4000_0000
 
 -- ---- what a call answers and leaves in its three sheets
 

@@ -1,9 +1,11 @@
 // Answers by number, triplets into three lent sheets, and chains of equal keys.
 #![tactic(auto)]
 
-ghost use Rattle.std.specs.Prelude.{◌≡◌, ◌+◌, ◌<◌, ◌≤◌, length, get_or, set};
+pub mod putting;
+
+ghost use Rattle.std.specs.Prelude.{◌≡◌, ◌<◌, length, get_or, set};
 ghost use Rattle.sequence.specs.Answers.{refusal_number, number_of, count_of};
-ghost use Rattle.sequence.specs.Sheets.{emit, held, Puts, Room, room};
+ghost use Rattle.sequence.specs.Sheets.{held, Fits, room};
 
 // Why a call refuses, in the order in which its tests are made; each has its place in that order as its number.
 #[derive(Clone, Copy, Debug, PartialEq, Eq)]
@@ -61,29 +63,15 @@ pub struct Triplet {
     pub value: f64,
 }
 
-// A triplet, or none: counted, and stored where its place is below `limit` too. One walk is so both the counting
-// pass (limit 0) and the writing pass.
-pub fn put(
-    rows: &mut [u32],
-    cols: &mut [u32],
-    values: &mut [f64],
-    limit: usize,
-    at: usize,
-    triplet: Option<Triplet>,
-) -> usize
-    requires { Room limit (held rows cols values at) }
-    ensures puts { Puts limit (emit triplet) (held rows.entry cols.entry values.entry at) (held rows.exit cols.exit values.exit result) }
-    ensures most { result ≤ at + 1 }
-{
-    let Some(t) = triplet else {
-        return at;
-    };
-    if at < limit {
-        rows[at] = t.row;
-        cols[at] = t.col;
-        values[at] = t.value;
-    }
-    at + 1
+// Three sheets, of which the places below a limit are written, and how many triplets have been put.
+#[derive(Drop)]
+pub struct Sink<'a> {
+    pub rows: &'a mut [u32],
+    pub cols: &'a mut [u32],
+    pub values: &'a mut [f64],
+    pub limit: usize,
+    pub count: usize,
+    pub ghost room: { Fits limit (held rows cols values count) },
 }
 
 // How many triplets the three sheets hold.
@@ -94,6 +82,7 @@ pub fn room(rows: &[u32], cols: &[u32], values: &[f64]) -> usize
 }
 
 // Index i goes before the chain of its key.
+// `head` and `next` stay single: with a struct of two `&mut`, `push` and its callers would promise to keep the two.
 pub fn push(head: &mut [u32], next: &mut [u32], key: usize, i: usize)
     requires { (key < length head.old) × (i < length next.old) × (i < 0x1_0000) }
     ensures head_after { head.new ≡ set head.old key i }

@@ -1,5 +1,5 @@
 // Bytes that are written one after the other into a lent buffer.
-ghost use Rattle.std.specs.Prelude.{◌≡◌, [], ◌∷◌, ◌+◌, ◌<◌, ◌≤◌, length};
+ghost use Rattle.std.specs.Prelude.{[], ◌∷◌, ◌+◌, ◌<◌, ◌≤◌, length};
 ghost use Rattle.io.specs.Digits.{last_digits};
 ghost use Rattle.sequence.specs.Answers.{number_of, count_of};
 ghost use Rattle.site_text.specs.Text.{decimal_of, first_line, triplet_line};

@@ -6,9 +6,8 @@ ghost use Rattle.io.specs.Counts.{IsPrefixLen as Counts·of};
 ghost use Rattle.sequence.specs.Answers.{number_of, count_of};
 ghost use Rattle.words.specs.Words.{joined};
 ghost use Rattle.network.specs.Layout.{counts_of, size};
-ghost use Rattle.network.specs.Numbers.{Wired};
 ghost use Rattle.solution.specs.NetworkB.{wiring_b, readings_b, sheet_b};
-ghost use Rattle.kkt_index.specs.Index.{start_in, Narrow};
+ghost use Rattle.kkt_index.specs.Index.{start_in};
 ghost use Rattle.kkt.specs.Slots.Rule.{first_place};
 ghost use Rattle.change_table.specs.Table.{is_kind, field_of, cells_of, cells_at, named_cells};
 ghost use Rattle.job_book.specs.Book.{change, words, step};
@@ -20,12 +19,11 @@ ghost use Rattle.site_text.specs.Writing.{Adds};
 mod buffer;
 
 use crate::buffer::Buffer;
-use change_cells::is_named;
+use change_cells::Places;
 use change_table::field_of;
-use kkt_index::KktIdx;
 use kkt_list::index_of;
 use network::layout::{counts, wide};
-use network::{Counts, Field};
+use network::{Counts, Field, Grid, Plan};
 use sequence::{Answer, Refusal, Triplet};
 use words::word32;
 
@@ -55,6 +53,7 @@ fn solution_b() -> [f64; 19]
 }
 
 // The change of network B.
+// The sheets stay single, as `change` takes them.
 fn change_b(
     rows: &mut [u32],
     cols: &mut [u32],
@@ -84,9 +83,7 @@ fn change_b(
 // The lines of the triplets that are in a cell that the change names.
 fn put_named(
     text: &mut Buffer<'_>,
-    wiring: &[u32],
-    c: Counts,
-    x: KktIdx,
+    places: &Places<'_>,
     f: Field,
     i: usize,
     rows: &[u32],
@@ -94,12 +91,10 @@ fn put_named(
     values: &[f64],
     count: usize,
 )
-    requires wired { Wired c wiring.now }
-    requires narrow { Narrow x }
-    requires i_bound { i < size c f }
+    requires i_bound { i < size places.now.counts f }
     requires count_in_bounds { (count ≤ length rows.now) × (count ≤ length cols.now) × (count ≤ length values.now) }
     requires count_in_bounds_2 { text.old.len + 59 * count ≤ length text.old.bytes.now }
-    ensures wrote { Adds (joined triplet_line (triplets_in (cells_at (start_in x) (cells_of c wiring.now f i)) (triplets (take count rows.now) (take count cols.now) (take count values.now)))) text.old text.new }
+    ensures wrote { Adds (joined triplet_line (triplets_in (cells_at (start_in places.now.index) (cells_of places.now.counts places.now.wiring.now f i)) (triplets (take count rows.now) (take count cols.now) (take count values.now)))) text.old text.new }
     ensures most { text.new.len ≤ text.old.len + 59 * count }
 {
     for t in 0..count {
@@ -108,7 +103,7 @@ fn put_named(
             col: cols[t],
             value: values[t],
         };
-        if is_named(wiring, c, x, f, i, triplet.row, triplet.col) {
+        if places.is_named(f, i, triplet.row, triplet.col) {
             text.put_triplet_line(triplet);
         }
     }
@@ -133,10 +128,20 @@ fn put_named_b(
     let wiring = wiring_b();
     let readings = readings_b();
     let c = counts(&wiring);
-    let x = index_of(&wiring, &readings, c);
+    let plan = Plan {
+        counts: c,
+        wiring: &wiring,
+        readings: &readings,
+    };
+    let grid = Grid { plan };
+    let places = Places {
+        counts: c,
+        wiring: &wiring,
+        index: index_of(&grid),
+    };
     let f = field_of(wide(head / 0x1000_0000));
     let i = wide(head % 0x1000_0000);
-    put_named(text, &wiring, c, x, f, i, rows, cols, values, count);
+    put_named(text, &places, f, i, rows, cols, values, count);
 }
 
 // The change's answer and, where it is accepted, its triplets.

@@ -18,7 +18,7 @@ use Rattle.kkt_index.specs.Index.{Shape, shape_of}
 use Rattle.kkt_index.specs.Index.Shape.{free, upper_only, lower_only, two_sided, equality}
 use Rattle.snapping.specs.declared.LinearDuals.{LinearDuals}
 use Rattle.snapping.specs.Expr.{Expr, eval, none, tol}
-use Rattle.snapping.specs.Expr.Expr.{num, rd, sol, minus, positive, ◌⊕◌, ◌⊖◌, ◌⊗◌, ◌⊘◌, choice, if_below, if_at_most, snapped, by_bus, gather}
+use Rattle.snapping.specs.Expr.Expr.{num, rd, sol, minus, positive, ◌⊕◌, ◌⊖◌, ◌⊗◌, ◌⊘◌, choice, if_below, if_at_most, snapped, by_bus}
 
 -- ---- buses
 

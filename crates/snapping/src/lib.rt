@@ -2,11 +2,13 @@
 #![tactic(auto)]
 
 ghost use Rattle.std.specs.Prelude.{◌≡◌, cond, ◌<◌};
-ghost use Rattle.std.specs.Float.Ieee.{lt, le};
+ghost use Rattle.std.specs.Float.{binary64};
+ghost use Rattle.std.specs.Float.Ieee.{lt, le, sub};
 ghost use Rattle.float64.specs.Values.{nought, tolerance, max_zero};
-ghost use Rattle.network.specs.Layout.{WiringLaid, ReadingsLaid, reading};
+ghost use Rattle.network.specs.declared.Part.TheVariants.{BrFrom, BrTo};
+ghost use Rattle.network.specs.Layout.{ReadingsLaid, wire, reading};
 ghost use Rattle.network.specs.Numbers.{Wired, Termed};
-ghost use Rattle.solution.specs.Sheet.{solved, SheetLaid};
+ghost use Rattle.solution.specs.Sheet.{size, solved, SheetLaid};
 ghost use Rattle.snapping.specs.States.{bus_state, limit_state, limit_value};
 ghost use Rattle.snapping.specs.Expr.{eval};
 ghost use Rattle.snapping.specs.Snap.{cap_of, shed_of, mu_lb_of, mu_ub_of, angle, gamma_ub_of, gamma_lb_of, segment_slack, segment_dual, row_value, duals, signed, snapped_at};
@@ -17,8 +19,8 @@ use model::rows::row_limits;
 use model::terms::evaluate_at;
 use model::withdrawal::shed_cap_at;
 use network::layout::{reading, word};
-use network::{Counts, Field, Part};
-use solution::{Entry, solved_at};
+use network::{Counts, Field, Part, Plan};
+use solution::{Entry, OperatingPoint, solved_at};
 
 // The state in which a bus is found.
 #[derive(Clone, Copy)]
@@ -96,32 +98,22 @@ fn limit_value(slack: f64, dual: f64) -> f64
 }
 
 // Whether bus i is fixed: it has nothing to shed.
-pub fn is_fixed_zero_shed(wiring: &[u32], readings: &[f64], c: Counts, i: usize) -> bool
-    requires wiring_laid { WiringLaid c wiring.now }
-    requires readings_laid { ReadingsLaid c readings.now }
-    requires i_lt_buses { i < c.buses }
-    ensures { (S : _) → result ≡ lt (eval (reading c readings.now) S (cap_of wiring.now i)) tolerance }
+pub fn is_fixed_zero_shed(plan: &Plan<'_>, i: usize) -> bool
+    requires { i < plan.now.counts.buses }
+    ensures { (S : _) → result ≡ lt (eval (reading plan.now.counts plan.now.readings.now) S (cap_of plan.now.wiring.now i)) tolerance }
 {
-    shed_cap_at(wiring, readings, c, i) < KktIdx::snap_tol()
+    shed_cap_at(plan, i) < KktIdx::snap_tol()
 }
 
 // The shed of bus i.
-pub fn shed_of(
-    wiring: &[u32],
-    readings: &[f64],
-    sheet: &[f64],
-    c: Counts,
-    p: usize,
-    i: usize,
-) -> f64
-    requires wiring_laid { WiringLaid c wiring.now }
-    requires readings_laid { ReadingsLaid c readings.now }
-    requires sheet_laid { SheetLaid c p sheet.now }
-    requires i_lt_buses { i < c.buses }
-    ensures { result ≡ eval (reading c readings.now) (solved c p sheet.now) (shed_of wiring.now i) }
+// Here and in the next two: a plan and the sheet; an operating point would ask that the wiring's indexes hold.
+pub fn shed_of(plan: &Plan<'_>, sheet: &[f64], p: usize, i: usize) -> f64
+    requires sheet_laid { SheetLaid plan.now.counts p sheet.now }
+    requires i_lt_buses { i < plan.now.counts.buses }
+    ensures { result ≡ eval (reading plan.now.counts plan.now.readings.now) (solved plan.now.counts p sheet.now) (shed_of plan.now.wiring.now i) }
 {
-    let cap = shed_cap_at(wiring, readings, c, i);
-    let shed = solved_at(sheet, c, p, Entry::Psh, i);
+    let cap = shed_cap_at(plan, i);
+    let shed = solved_at(sheet, plan.counts, p, Entry::Psh, i);
     match bus_state(cap, shed) {
         BusState::Fixed => 0.0,
         BusState::AtZero => 0.0,
@@ -131,24 +123,15 @@ pub fn shed_of(
 }
 
 // The dual of bus i's lower shed bound. At a fixed bus the two bounds are one, and their duals are folded.
-pub fn mu_lb_of(
-    wiring: &[u32],
-    readings: &[f64],
-    sheet: &[f64],
-    c: Counts,
-    p: usize,
-    i: usize,
-) -> f64
-    requires wiring_laid { WiringLaid c wiring.now }
-    requires readings_laid { ReadingsLaid c readings.now }
-    requires sheet_laid { SheetLaid c p sheet.now }
-    requires i_lt_buses { i < c.buses }
-    ensures { result ≡ eval (reading c readings.now) (solved c p sheet.now) (mu_lb_of wiring.now i) }
+pub fn mu_lb_of(plan: &Plan<'_>, sheet: &[f64], p: usize, i: usize) -> f64
+    requires sheet_laid { SheetLaid plan.now.counts p sheet.now }
+    requires i_lt_buses { i < plan.now.counts.buses }
+    ensures { result ≡ eval (reading plan.now.counts plan.now.readings.now) (solved plan.now.counts p sheet.now) (mu_lb_of plan.now.wiring.now i) }
 {
-    let cap = shed_cap_at(wiring, readings, c, i);
-    let shed = solved_at(sheet, c, p, Entry::Psh, i);
-    let lower = solved_at(sheet, c, p, Entry::MuLb, i);
-    let upper = solved_at(sheet, c, p, Entry::MuUb, i);
+    let cap = shed_cap_at(plan, i);
+    let shed = solved_at(sheet, plan.counts, p, Entry::Psh, i);
+    let lower = solved_at(sheet, plan.counts, p, Entry::MuLb, i);
+    let upper = solved_at(sheet, plan.counts, p, Entry::MuUb, i);
     match bus_state(cap, shed) {
         BusState::Fixed => lower - upper,
         BusState::AtZero => lower,
@@ -158,29 +141,33 @@ pub fn mu_lb_of(
 }
 
 // The dual of bus i's upper shed bound.
-pub fn mu_ub_of(
-    wiring: &[u32],
-    readings: &[f64],
-    sheet: &[f64],
-    c: Counts,
-    p: usize,
-    i: usize,
-) -> f64
-    requires wiring_laid { WiringLaid c wiring.now }
-    requires readings_laid { ReadingsLaid c readings.now }
-    requires sheet_laid { SheetLaid c p sheet.now }
-    requires i_lt_buses { i < c.buses }
-    ensures { result ≡ eval (reading c readings.now) (solved c p sheet.now) (mu_ub_of wiring.now i) }
+pub fn mu_ub_of(plan: &Plan<'_>, sheet: &[f64], p: usize, i: usize) -> f64
+    requires sheet_laid { SheetLaid plan.now.counts p sheet.now }
+    requires i_lt_buses { i < plan.now.counts.buses }
+    ensures { result ≡ eval (reading plan.now.counts plan.now.readings.now) (solved plan.now.counts p sheet.now) (mu_ub_of plan.now.wiring.now i) }
 {
-    let cap = shed_cap_at(wiring, readings, c, i);
-    let shed = solved_at(sheet, c, p, Entry::Psh, i);
-    let upper = solved_at(sheet, c, p, Entry::MuUb, i);
+    let cap = shed_cap_at(plan, i);
+    let shed = solved_at(sheet, plan.counts, p, Entry::Psh, i);
+    let upper = solved_at(sheet, plan.counts, p, Entry::MuUb, i);
     match bus_state(cap, shed) {
         BusState::Fixed => 0.0,
         BusState::AtZero => 0.0,
         BusState::AtCap => upper,
         BusState::Between => 0.0,
     }
+}
+
+// A bus entry's word at branch e's from end less that at its to end.
+// Here and in `angle`: the wiring and the sheet alone; an operating point would ask for the readings too.
+pub fn across(wiring: &[u32], sheet: &[f64], c: Counts, p: usize, of: Entry, e: usize) -> f64
+    requires wired { Wired c wiring.now }
+    requires sheet_laid { SheetLaid c p sheet.now }
+    requires e_lt_branches { (e < c.branches) × (size c p of ≡ c.buses) }
+    ensures { result ≡ sub binary64 (solved c p sheet.now of (wire c wiring.now BrFrom e)) (solved c p sheet.now of (wire c wiring.now BrTo e)) }
+{
+    let from = word(wiring, c, Part::BrFrom, e);
+    let to = word(wiring, c, Part::BrTo, e);
+    solved_at(sheet, c, p, of, from) - solved_at(sheet, c, p, of, to)
 }
 
 // The angle across branch e.
@@ -190,50 +177,42 @@ pub fn angle(wiring: &[u32], sheet: &[f64], c: Counts, p: usize, e: usize) -> f6
     requires e_lt_branches { e < c.branches }
     ensures { (R : _) → result ≡ eval R (solved c p sheet.now) (angle c wiring.now e) }
 {
-    let from = word(wiring, c, Part::BrFrom, e);
-    let to = word(wiring, c, Part::BrTo, e);
-    solved_at(sheet, c, p, Entry::Va, from) - solved_at(sheet, c, p, Entry::Va, to)
+    across(wiring, sheet, c, p, Entry::Va, e)
 }
 
 // The dual of branch e's upper angle limit.
-pub fn gamma_ub_of(
-    wiring: &[u32],
-    readings: &[f64],
-    sheet: &[f64],
-    c: Counts,
-    p: usize,
-    e: usize,
-) -> f64
-    requires wired { Wired c wiring.now }
-    requires readings_laid { ReadingsLaid c readings.now }
-    requires sheet_laid { SheetLaid c p sheet.now }
-    requires e_lt_branches { e < c.branches }
-    ensures { result ≡ eval (reading c readings.now) (solved c p sheet.now) (gamma_ub_of c wiring.now e) }
+pub fn gamma_ub_of(point: &OperatingPoint<'_>, e: usize) -> f64
+    requires { e < point.now.grid.plan.counts.branches }
+    ensures { result ≡ eval (reading point.now.grid.plan.counts point.now.grid.plan.readings.now) (solved point.now.grid.plan.counts point.now.pieces point.now.sheet.now) (gamma_ub_of point.now.grid.plan.counts point.now.grid.plan.wiring.now e) }
 {
-    let slack = reading(readings, c, Field::Angmax, e) - angle(wiring, sheet, c, p, e);
-    limit_value(slack, solved_at(sheet, c, p, Entry::GammaUb, e))
+    let slack = point.grid.reading(Field::Angmax, e)
+        - angle(
+            point.grid.plan.wiring,
+            point.sheet,
+            point.grid.plan.counts,
+            point.pieces,
+            e,
+        );
+    limit_value(slack, point.value(Entry::GammaUb, e))
 }
 
 // The dual of branch e's lower angle limit.
-pub fn gamma_lb_of(
-    wiring: &[u32],
-    readings: &[f64],
-    sheet: &[f64],
-    c: Counts,
-    p: usize,
-    e: usize,
-) -> f64
-    requires wired { Wired c wiring.now }
-    requires readings_laid { ReadingsLaid c readings.now }
-    requires sheet_laid { SheetLaid c p sheet.now }
-    requires e_lt_branches { e < c.branches }
-    ensures { result ≡ eval (reading c readings.now) (solved c p sheet.now) (gamma_lb_of c wiring.now e) }
+pub fn gamma_lb_of(point: &OperatingPoint<'_>, e: usize) -> f64
+    requires { e < point.now.grid.plan.counts.branches }
+    ensures { result ≡ eval (reading point.now.grid.plan.counts point.now.grid.plan.readings.now) (solved point.now.grid.plan.counts point.now.pieces point.now.sheet.now) (gamma_lb_of point.now.grid.plan.counts point.now.grid.plan.wiring.now e) }
 {
-    let slack = angle(wiring, sheet, c, p, e) - reading(readings, c, Field::Angmin, e);
-    limit_value(slack, solved_at(sheet, c, p, Entry::GammaLb, e))
+    let slack = angle(
+        point.grid.plan.wiring,
+        point.sheet,
+        point.grid.plan.counts,
+        point.pieces,
+        e,
+    ) - point.grid.reading(Field::Angmin, e);
+    limit_value(slack, point.value(Entry::GammaLb, e))
 }
 
 // The slack of segment s of generator j, whose epigraph is the sheet's word g.
+// Here and in `segment_dual`: the readings and the sheet alone; an operating point would ask for the wiring too.
 pub fn segment_slack(
     readings: &[f64],
     sheet: &[f64],
@@ -273,6 +252,7 @@ pub fn segment_dual(
 }
 
 // The value of linear row q at the sheet's flows and dispatch.
+// It asks for the wiring, the terms and the sheet alone: an operating point would ask for the readings too.
 pub fn row_value(
     wiring: &[u32],
     term_index: &[u32],
@@ -308,26 +288,27 @@ fn binding_dual(slack: f64, dual: f64) -> f64
 
 // The snapped multipliers of linear row q.
 pub fn snap_linear_at(
-    wiring: &[u32],
-    readings: &[f64],
+    point: &OperatingPoint<'_>,
     term_index: &[u32],
     term_coefficient: &[f64],
-    sheet: &[f64],
-    c: Counts,
-    p: usize,
     q: usize,
 ) -> LinearDuals
-    requires wired { Wired c wiring.now }
-    requires readings_laid { ReadingsLaid c readings.now }
-    requires termed { Termed c wiring.now term_index.now term_coefficient.now }
-    requires sheet_laid { SheetLaid c p sheet.now }
-    requires q_lt_rows { q < c.rows }
-    ensures { result ≡ duals c wiring.now term_index.now term_coefficient.now p readings.now sheet.now q }
+    requires termed { Termed point.now.grid.plan.counts point.now.grid.plan.wiring.now term_index.now term_coefficient.now }
+    requires q_lt_rows { q < point.now.grid.plan.counts.rows }
+    ensures { result ≡ duals point.now.grid.plan.counts point.now.grid.plan.wiring.now term_index.now term_coefficient.now point.now.pieces point.now.grid.plan.readings.now point.now.sheet.now q }
 {
-    let value = row_value(wiring, term_index, term_coefficient, sheet, c, p, q);
-    let base = reading(readings, c, Field::BaseMva, 0);
-    let dual = solved_at(sheet, c, p, Entry::LinearDual, q);
-    match row_limits(wiring, readings, c, q) {
+    let value = row_value(
+        point.grid.plan.wiring,
+        term_index,
+        term_coefficient,
+        point.sheet,
+        point.grid.plan.counts,
+        point.pieces,
+        q,
+    );
+    let base = point.grid.reading(Field::BaseMva, 0);
+    let dual = point.value(Entry::LinearDual, q);
+    match row_limits(&point.grid.plan, q) {
         RowLimits::None => LinearDuals {
             upper: 0.0,
             lower: 0.0,
@@ -357,39 +338,28 @@ pub fn snap_linear_at(
 }
 
 // Word i of an entry of the snapped sheet, segment duals aside.
-pub fn snapped_at(
-    wiring: &[u32],
-    readings: &[f64],
-    sheet: &[f64],
-    c: Counts,
-    p: usize,
-    e: Entry,
-    i: usize,
-) -> f64
-    requires wired { Wired c wiring.now }
-    requires readings_laid { ReadingsLaid c readings.now }
-    requires sheet_laid { SheetLaid c p sheet.now }
-    requires i_bound { i < Rattle.solution.specs.Sheet.size c p e }
-    ensures { result ≡ eval (reading c readings.now) (solved c p sheet.now) (snapped_at c wiring.now e i) }
+pub fn snapped_at(point: &OperatingPoint<'_>, e: Entry, i: usize) -> f64
+    requires { i < Rattle.solution.specs.Sheet.size point.now.grid.plan.counts point.now.pieces e }
+    ensures { result ≡ eval (reading point.now.grid.plan.counts point.now.grid.plan.readings.now) (solved point.now.grid.plan.counts point.now.pieces point.now.sheet.now) (snapped_at point.now.grid.plan.counts point.now.grid.plan.wiring.now e i) }
 {
     match e {
-        Entry::Psh => shed_of(wiring, readings, sheet, c, p, i),
-        Entry::MuUb => mu_ub_of(wiring, readings, sheet, c, p, i),
-        Entry::MuLb => mu_lb_of(wiring, readings, sheet, c, p, i),
-        Entry::GammaUb => gamma_ub_of(wiring, readings, sheet, c, p, i),
-        Entry::GammaLb => gamma_lb_of(wiring, readings, sheet, c, p, i),
-        Entry::Va => solved_at(sheet, c, p, Entry::Va, i),
-        Entry::Pg => solved_at(sheet, c, p, Entry::Pg, i),
-        Entry::Flow => solved_at(sheet, c, p, Entry::Flow, i),
-        Entry::NuBal => solved_at(sheet, c, p, Entry::NuBal, i),
-        Entry::LamUb => solved_at(sheet, c, p, Entry::LamUb, i),
-        Entry::LamLb => solved_at(sheet, c, p, Entry::LamLb, i),
-        Entry::RhoUb => solved_at(sheet, c, p, Entry::RhoUb, i),
-        Entry::RhoLb => solved_at(sheet, c, p, Entry::RhoLb, i),
-        Entry::Epigraph => solved_at(sheet, c, p, Entry::Epigraph, i),
-        Entry::SegmentDual => solved_at(sheet, c, p, Entry::SegmentDual, i),
-        Entry::LinearDual => solved_at(sheet, c, p, Entry::LinearDual, i),
-        Entry::LinearValue => solved_at(sheet, c, p, Entry::LinearValue, i),
-        Entry::Objective => solved_at(sheet, c, p, Entry::Objective, i),
+        Entry::Psh => shed_of(&point.grid.plan, point.sheet, point.pieces, i),
+        Entry::MuUb => mu_ub_of(&point.grid.plan, point.sheet, point.pieces, i),
+        Entry::MuLb => mu_lb_of(&point.grid.plan, point.sheet, point.pieces, i),
+        Entry::GammaUb => gamma_ub_of(point, i),
+        Entry::GammaLb => gamma_lb_of(point, i),
+        Entry::Va => point.value(Entry::Va, i),
+        Entry::Pg => point.value(Entry::Pg, i),
+        Entry::Flow => point.value(Entry::Flow, i),
+        Entry::NuBal => point.value(Entry::NuBal, i),
+        Entry::LamUb => point.value(Entry::LamUb, i),
+        Entry::LamLb => point.value(Entry::LamLb, i),
+        Entry::RhoUb => point.value(Entry::RhoUb, i),
+        Entry::RhoLb => point.value(Entry::RhoLb, i),
+        Entry::Epigraph => point.value(Entry::Epigraph, i),
+        Entry::SegmentDual => point.value(Entry::SegmentDual, i),
+        Entry::LinearDual => point.value(Entry::LinearDual, i),
+        Entry::LinearValue => point.value(Entry::LinearValue, i),
+        Entry::Objective => point.value(Entry::Objective, i),
     }
 }

@@ -6,7 +6,7 @@ ghost use Rattle.network.specs.Layout.{Few, WiringLaid};
 ghost use Rattle.solution.specs.Sheet.{pieces, size, entry_start, solved, SheetLaid};
 
 use network::layout::word;
-use network::{Counts, Part};
+use network::{Counts, Grid, Part};
 
 // The sheet's entries, in the paper's order.
 #[derive(Clone, Copy, PartialEq, Eq, Debug)]
@@ -43,6 +43,7 @@ pub fn next_piece(count: usize, segments: usize) -> usize
 }
 
 // The number of piecewise generators.
+// It asks for the wiring alone: a plan asks for the readings too, and a `Wiring` would be made for the call.
 pub fn piece_count(wiring: &[u32], c: Counts) -> usize
     requires { WiringLaid c wiring.now }
     ensures { (result ≡ pieces c wiring.now) × (result ≤ c.generators) }
@@ -102,6 +103,7 @@ pub fn entry_start(c: Counts, p: usize, e: Entry) -> usize
 }
 
 // Word i of an entry.
+// It asks for the sheet alone: an operating point would ask for a grid too.
 pub fn solved_at(sheet: &[f64], c: Counts, p: usize, e: Entry, i: usize) -> f64
     requires sheet_laid { SheetLaid c p sheet.now }
     requires i_bound { i < size c p e }
@@ -109,4 +111,23 @@ pub fn solved_at(sheet: &[f64], c: Counts, p: usize, e: Entry, i: usize) -> f64
 {
     let at = entry_start(c, p, e) + i;
     sheet[at]
+}
+
+// A network's grid with a solution sheet that is as long as its counts and its piecewise generators say.
+#[derive(Clone, Copy)]
+pub struct OperatingPoint<'a> {
+    pub grid: Grid<'a>,
+    pub pieces: usize,
+    pub sheet: &'a [f64],
+    pub ghost sheet_laid: { SheetLaid grid.plan.counts pieces sheet.now },
+}
+
+impl OperatingPoint<'_> {
+    // Word i of an entry.
+    pub fn value(&self, e: Entry, i: usize) -> f64
+        requires { i < size self.now.grid.plan.counts self.now.pieces e }
+        ensures { result ≡ solved self.now.grid.plan.counts self.now.pieces self.now.sheet.now e i }
+    {
+        solved_at(self.sheet, self.grid.plan.counts, self.pieces, e, i)
+    }
 }

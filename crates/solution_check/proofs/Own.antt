@@ -99,7 +99,7 @@ solved N s {c} a e = record {
 }
 
 -- the sheet of a site that was accepted with it, at the site's own wiring
-pub site_sheet : {l : Lent} {site : Site} {s : List Float} {p : ℕ} → SiteOf l site → Solved (network_in l) s site.counts → p ≡ pieces site.counts site.wiring.now → SheetLaid site.counts p s
+pub site_sheet : {l : Lent} {site : Site} {s : List Float} {p : ℕ} → SiteOf l site → Solved (network_in l) s site.grid.plan.counts → p ≡ pieces site.grid.plan.counts site.grid.plan.wiring.now → SheetLaid site.grid.plan.counts p s
 site_sheet a d e = rw (e, a.wiring) d.laid
 
 -- the longest sheet: 5n + 3k + 5m + p + S + 2q + 1 at the greatest counts

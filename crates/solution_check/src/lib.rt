@@ -1,7 +1,7 @@
 // Numbers 1 to 3 of a network with its solution sheet.
 #![tactic(auto)]
 
-ghost use Rattle.std.specs.Prelude.{◌≡◌, true, ℕ, ◌<◌, ◌≤◌, length, take, IfOk};
+ghost use Rattle.std.specs.Prelude.{◌≡◌, true, ◌<◌, ◌≤◌, length, take, IfOk};
 ghost use Rattle.sequence.specs.Answers.{first_of, number_of};
 ghost use Rattle.float64.specs.Values.{sheet_limit};
 ghost use Rattle.network.specs.Layout.{Few};
@@ -11,7 +11,7 @@ ghost use Rattle.solution.specs.Sheet.{sheet_length};
 ghost use Rattle.solution_check.specs.Tests.{solution_long, looked_at, solution_tests, Solved};
 
 use float64::sheet_limit;
-use network::check::{all_within, sizes_hold};
+use network::check::all_within;
 use network::layout::counts;
 use network::{Counts, Lent, Site};
 use sequence::Refusal;
@@ -30,17 +30,11 @@ pub fn sheet_length(c: Counts, p: usize) -> usize
 fn sheet_is_long(lent: Lent<'_>, solution: &[f64]) -> bool
     ensures { sizes_hold (network_in lent.entry) ≡ true → result ≡ solution_long (network_in lent.entry) solution.now }
 {
-    let Lent {
-        wiring,
-        readings,
-        term_index,
-        term_coefficient,
-    } = lent;
-    if !sizes_hold(wiring, readings, term_index, term_coefficient) {
+    if !lent.sizes_hold() {
         return false;
     }
-    let c = counts(wiring);
-    solution.len() == sheet_length(c, piece_count(wiring, c))
+    let c = counts(lent.wiring);
+    solution.len() == sheet_length(c, piece_count(lent.wiring, c))
 }
 
 // Whether the words that are looked at are sheet readings: all, or all but the last q + 1.
@@ -64,11 +58,11 @@ pub fn accept_solution<'a>(
 ) -> Result<Site<'a>, Refusal>
     ensures number { number_of result ≡ first_of (solution_tests whole (network_in lent.entry) solution.now) }
     ensures accepted { IfOk result (SiteOf lent.entry) }
-    ensures solved { IfOk result (λ site. Solved (network_in lent.entry) solution.now site.counts) }
+    ensures solved { IfOk result (λ site. Solved (network_in lent.entry) solution.now site.grid.plan.counts) }
 {
     let sizes = sheet_is_long(lent, solution);
     let site = lent.accept_with(sizes, true)?;
-    if sheet_holds(solution, site.counts, whole) {
+    if sheet_holds(solution, site.grid.plan.counts, whole) {
         Ok(site)
     } else {
         Err(Refusal::Reading)

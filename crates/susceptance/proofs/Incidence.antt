@@ -13,10 +13,13 @@ use borrow.Author.Tests.{eq-eqb, ne_eqb}
 use Rattle.float64.specs.Values.{nought, add_at, sub_at}
 use Rattle.sequence.specs.Lists.{each, turns, some}
 use Rattle.sequence.specs.Links.{First, Links}
-use Rattle.sequence.specs.Sheets.{emit, Sheets, Puts}
+use Rattle.sequence.specs.declared.Sink.{Sink}
+use Rattle.sequence.specs.Sheets.{emit}
+use Rattle.sequence.specs.Sinks.{Gains}
 use Rattle.sequence.proofs.Lists.{each_same, each_skip, each_add, turns_more, turns_same, turns_skip, turns_pairs, stored_at}
 use Rattle.sequence.proofs.Links.{links_more}
-use Rattle.sequence.proofs.Sheets.{then, emit_item}
+use Rattle.sequence.proofs.Sheets.{emit_item}
+use Rattle.sequence.proofs.Sinks.{then}
 use Rattle.network.specs.declared.Counts.{Counts}
 use Rattle.network.specs.declared.Part.TheVariants.{BrFrom, BrTo}
 use Rattle.network.specs.Layout.{wire}
@@ -258,9 +261,9 @@ unfolding span_at cell_at emit each
 span_none acc hit i a b h = each_skip _ 0 b (omega arith) (λ j p q. rw (h j q))
 
 -- one block more
-pub block_more : {limit : ℕ} {S₀ S₁ S₂ : Sheets} (acc : List Float) (hit : List ℕ) (i n q b : ℕ) → 16 * q ≤ n → b ≡ min (n - 16 * q) 16
-    → Puts limit (each (min (16 * q) n) (cell_at acc hit i)) S₀ S₁ → Puts limit (span_at acc hit i (16 * q) b) S₁ S₂
-    → Puts limit (each (min (16 * (q + 1)) n) (cell_at acc hit i)) S₀ S₂
+pub block_more : {S₀ S₁ S₂ : Sink} (acc : List Float) (hit : List ℕ) (i n q b : ℕ) → 16 * q ≤ n → b ≡ min (n - 16 * q) 16
+    → Gains (each (min (16 * q) n) (cell_at acc hit i)) S₀ S₁ → Gains (span_at acc hit i (16 * q) b) S₁ S₂
+    → Gains (each (min (16 * (q + 1)) n) (cell_at acc hit i)) S₀ S₂
 unfolding span_at
 block_more acc hit i n q b h e p s =
     let a : min (16 * q) n ≡ 16 * q = omega arith in

@@ -3,20 +3,24 @@
 
 ghost use Rattle.std.specs.Prelude.{◌≡◌, true, false, not, ◌||◌, ℕ, ◌+◌, ◌*◌, ◌<◌, ◌≤◌, length, get_or, eqb};
 ghost use Rattle.std.specs.Float.{nan};
-ghost use Rattle.float64.specs.Values.{nought, add_at, sub_at};
+ghost use Rattle.float64.specs.Values.{add_at, sub_at};
 ghost use Rattle.sequence.specs.Lists.{each};
 ghost use Rattle.sequence.specs.Links.{Links};
-ghost use Rattle.sequence.specs.Sheets.{item, held, Puts, Room};
-ghost use Rattle.network.specs.Layout.{ReadingsLaid};
+ghost use Rattle.sequence.specs.Sheets.{item};
+ghost use Rattle.sequence.specs.Sinks.{Gains};
 ghost use Rattle.network.specs.Numbers.{Wired};
 ghost use Rattle.susceptance.specs.Susceptance.{weight, cell_turn, susceptance_row, susceptance_coo};
-ghost use Rattle.susceptance.specs.Incidence.{end_at, Chains, takes, cell_sum, cell_mark, mark_at, Covers, marked, RowRoom, Stepped, EndStepped, RowBlank, RowHeld, cell_at, span_at};
+ghost use Rattle.susceptance.specs.Incidence.{end_at, takes, cell_sum, cell_mark, mark_at, Covers, marked, RowRoom, Stepped, EndStepped, RowBlank, RowHeld, cell_at, span_at};
 
-use network::layout::{reading, wide, word};
-use network::{Counts, Field, Part};
-use sequence::{Triplet, push, put};
+pub mod ends;
+
+pub use ends::Ends;
+use network::layout::{wide, word};
+use network::{Counts, Field, Grid, Part, Plan};
+use sequence::{Sink, Triplet, push};
 
 // The chains of the branches' ends, by bus.
+// It asks for the wiring alone (a grid asks for more, a `Wiring` would be made for it), and writes `head` and `next`.
 pub fn link_ends(wiring: &[u32], c: Counts, head: &mut [u32], next: &mut [u32])
     requires wired { Wired c wiring.now }
     requires buses_in_bounds { (c.buses ≤ length head.old) × (2 * c.branches ≤ length next.old) }
@@ -31,12 +35,11 @@ pub fn link_ends(wiring: &[u32], c: Counts, head: &mut [u32], next: &mut [u32])
 }
 
 // Minus the susceptance times the switch.
-fn weight(readings: &[f64], c: Counts, e: usize) -> f64
-    requires readings_laid { ReadingsLaid c readings.now }
-    requires e_lt_branches { e < c.branches }
-    ensures { result ≡ weight c readings.now e }
+fn weight(plan: &Plan<'_>, e: usize) -> f64
+    requires { e < plan.now.counts.branches }
+    ensures { result ≡ weight plan.now.counts plan.now.readings.now e }
 {
-    -reading(readings, c, Field::Susceptance, e) * reading(readings, c, Field::Sw, e)
+    -plan.reading(Field::Susceptance, e) * plan.reading(Field::Sw, e)
 }
 
 // x more, where it is met.
@@ -76,6 +79,7 @@ fn mark(p: usize, q: usize, hit: &mut [u32])
 }
 
 // A branch of bus i, into the sums and the marks of row i: none where its weight is zero.
+// Here and below `acc` and `hit` stay single: with a struct of two `&mut` each function would promise to keep the two.
 fn step(n: usize, i: usize, p: usize, q: usize, x: f64, acc: &mut [f64], hit: &mut [u32])
     requires row_room { RowRoom n acc.old hit.old }
     requires p_lt_n { (p < n) × (q < n) × ((eqb i p || eqb i q) ≡ true) }
@@ -99,81 +103,56 @@ fn takes(i: usize, x: usize, p: usize) -> bool
 }
 
 // End x of bus i's chain, into row i.
-fn end_step(
-    wiring: &[u32],
-    readings: &[f64],
-    c: Counts,
-    i: usize,
-    x: usize,
-    acc: &mut [f64],
-    hit: &mut [u32],
-)
-    requires wired { Wired c wiring.now }
-    requires readings_laid { ReadingsLaid c readings.now }
-    requires row_room { RowRoom c.buses acc.old hit.old }
-    requires x_bound { (x < 2 * c.branches) × (end_at c wiring.now x ≡ i) }
-    ensures { EndStepped c wiring.now readings.now i x acc.old hit.old acc.new hit.new }
+fn end_step(grid: &Grid<'_>, i: usize, x: usize, acc: &mut [f64], hit: &mut [u32])
+    requires row_room { RowRoom grid.now.plan.counts.buses acc.old hit.old }
+    requires x_bound { (x < 2 * grid.now.plan.counts.branches) × (end_at grid.now.plan.counts grid.now.plan.wiring.now x ≡ i) }
+    ensures { EndStepped grid.now.plan.counts grid.now.plan.wiring.now grid.now.plan.readings.now i x acc.old hit.old acc.new hit.new }
 {
     let e = x / 2;
-    let p = word(wiring, c, Part::BrFrom, e);
+    let p = grid.word(Part::BrFrom, e);
     if !takes(i, x, p) {
         return;
     }
-    let q = word(wiring, c, Part::BrTo, e);
-    step(c.buses, i, p, q, weight(readings, c, e), acc, hit);
+    let q = grid.word(Part::BrTo, e);
+    step(
+        grid.plan.counts.buses,
+        i,
+        p,
+        q,
+        weight(&grid.plan, e),
+        acc,
+        hit,
+    );
 }
 
 // The ends of bus i's chain, and no other branch, into row i.
-fn walk(
-    wiring: &[u32],
-    readings: &[f64],
-    c: Counts,
-    head: &[u32],
-    next: &[u32],
-    i: usize,
-    acc: &mut [f64],
-    hit: &mut [u32],
-)
-    requires wired { Wired c wiring.now }
-    requires readings_laid { ReadingsLaid c readings.now }
-    requires chains { Chains c wiring.now head.now next.now }
-    requires row_room { RowRoom c.buses acc.old hit.old }
-    requires i_lt_buses { i < c.buses }
-    requires row_blank { RowBlank c.buses acc.old hit.old }
-    ensures { RowHeld c wiring.now readings.now i acc.new hit.new }
+fn walk(ends: &Ends<'_>, i: usize, acc: &mut [f64], hit: &mut [u32])
+    requires row_room { RowRoom ends.now.grid.plan.counts.buses acc.old hit.old }
+    requires i_lt_buses { i < ends.now.grid.plan.counts.buses }
+    requires row_blank { RowBlank ends.now.grid.plan.counts.buses acc.old hit.old }
+    ensures { RowHeld ends.now.grid.plan.counts ends.now.grid.plan.wiring.now ends.now.grid.plan.readings.now i acc.new hit.new }
 {
-    let ends = 2 * c.branches;
-    let mut x = wide(head[i]);
-    while x < ends {
-        end_step(wiring, readings, c, i, x, acc, hit);
-        x = wide(next[x]);
+    let count = 2 * ends.grid.plan.counts.branches;
+    let mut x = wide(ends.head[i]);
+    while x < count {
+        end_step(&ends.grid, i, x, acc, hit);
+        x = wide(ends.next[x]);
     }
 }
 
 // Row i by column, made anew.
-pub fn make_row(
-    wiring: &[u32],
-    readings: &[f64],
-    c: Counts,
-    head: &[u32],
-    next: &[u32],
-    i: usize,
-    acc: &mut [f64],
-    hit: &mut [u32],
-)
-    requires wired { Wired c wiring.now }
-    requires readings_laid { ReadingsLaid c readings.now }
-    requires chains { Chains c wiring.now head.now next.now }
-    requires row_room { RowRoom c.buses acc.old hit.old }
-    requires i_lt_buses { i < c.buses }
-    ensures { RowHeld c wiring.now readings.now i acc.new hit.new }
+pub fn make_row(ends: &Ends<'_>, i: usize, acc: &mut [f64], hit: &mut [u32])
+    requires row_room { RowRoom ends.now.grid.plan.counts.buses acc.old hit.old }
+    requires i_lt_buses { i < ends.now.grid.plan.counts.buses }
+    ensures { RowHeld ends.now.grid.plan.counts ends.now.grid.plan.wiring.now ends.now.grid.plan.readings.now i acc.new hit.new }
 {
-    acc[..c.buses].fill(0.0);
-    hit[..16 + c.buses].fill(0);
-    walk(wiring, readings, c, head, next, i, acc, hit);
+    acc[..ends.grid.plan.counts.buses].fill(0.0);
+    hit[..16 + ends.grid.plan.counts.buses].fill(0);
+    walk(ends, i, acc, hit);
 }
 
 // Column j of row i, kept where it is marked.
+// `acc` and `hit` are only read here and in the next two, and stay single as where they are written.
 fn cell(acc: &[f64], hit: &[u32], i: usize, j: usize) -> Option<Triplet>
     requires { (j < length acc.now) × (16 + j < length hit.now) × (i < 256) × (j < 256) }
     ensures { result ≡ item (not (eqb (mark_at hit.now j) 0)) i j (get_or acc.now j nan) }
@@ -189,132 +168,65 @@ fn cell(acc: &[f64], hit: &[u32], i: usize, j: usize) -> Option<Triplet>
 }
 
 // Columns a to a + b - 1 of row i, of which none is marked where they are not on.
-fn put_span(
-    on: bool,
-    acc: &[f64],
-    hit: &[u32],
-    i: usize,
-    a: usize,
-    b: usize,
-    rows: &mut [u32],
-    cols: &mut [u32],
-    values: &mut [f64],
-    limit: usize,
-    at: usize,
-) -> usize
+fn put_span(on: bool, acc: &[f64], hit: &[u32], i: usize, a: usize, b: usize, sink: &mut Sink<'_>)
     requires row_room { RowRoom (a + b) acc.now hit.now }
-    requires i_bound { (i < 256) × (at < 0x1000_0000) }
+    requires i_bound { (i < 256) × (sink.old.count < 0x1000_0000) }
     requires j_value { on ≡ false → (j : ℕ) → j < b → mark_at hit.now (a + j) ≡ 0 }
-    requires room { Room limit (held rows cols values at) }
-    ensures puts { Puts limit (span_at acc.now hit.now i a b) (held rows.entry cols.entry values.entry at) (held rows.exit cols.exit values.exit result) }
-    ensures most { result ≤ at + b }
+    ensures puts { Gains (span_at acc.now hit.now i a b) sink.old sink.new }
+    ensures most { sink.new.count ≤ sink.old.count + b }
 {
-    let mut k = at;
     if !on {
-        return k;
+        return;
     }
     for j in 0..b {
-        k = put(rows, cols, values, limit, k, cell(acc, hit, i, a + j));
+        sink.put(cell(acc, hit, i, a + j));
     }
-    k
 }
 
 // Row i, by blocks of 16 columns: a block that is not marked is passed over.
-fn put_cells(
-    n: usize,
-    acc: &[f64],
-    hit: &[u32],
-    i: usize,
-    rows: &mut [u32],
-    cols: &mut [u32],
-    values: &mut [f64],
-    limit: usize,
-    at: usize,
-) -> usize
+fn put_cells(n: usize, acc: &[f64], hit: &[u32], i: usize, sink: &mut Sink<'_>)
     requires row_room { RowRoom n acc.now hit.now }
-    requires i_bound { (i < 256) × (at < 0x800_0000) }
+    requires i_bound { (i < 256) × (sink.old.count < 0x800_0000) }
     requires covers { Covers n hit.now }
-    requires room { Room limit (held rows cols values at) }
-    ensures puts { Puts limit (each n (cell_at acc.now hit.now i)) (held rows.entry cols.entry values.entry at) (held rows.exit cols.exit values.exit result) }
-    ensures most { result ≤ at + n }
+    ensures puts { Gains (each n (cell_at acc.now hit.now i)) sink.old sink.new }
+    ensures most { sink.new.count ≤ sink.old.count + n }
 {
-    let mut k = at;
     let blocks = (n + 15) / 16;
     for q in 0..blocks {
         let a = 16 * q;
-        k = put_span(
-            hit[q] != 0,
-            acc,
-            hit,
-            i,
-            a,
-            (n - a).min(16),
-            rows,
-            cols,
-            values,
-            limit,
-            k,
-        );
+        put_span(hit[q] != 0, acc, hit, i, a, (n - a).min(16), sink);
     }
-    k
 }
 
-// Row i, into the sheets.
-fn put_row(
-    wiring: &[u32],
-    readings: &[f64],
-    c: Counts,
-    head: &[u32],
-    next: &[u32],
-    i: usize,
-    acc: &mut [f64],
-    hit: &mut [u32],
-    rows: &mut [u32],
-    cols: &mut [u32],
-    values: &mut [f64],
-    limit: usize,
-    at: usize,
-) -> usize
-    requires wired { Wired c wiring.now }
-    requires readings_laid { ReadingsLaid c readings.now }
-    requires chains { Chains c wiring.now head.now next.now }
-    requires row_room { RowRoom c.buses acc.old hit.old }
-    requires i_lt_buses { (i < c.buses) × (at < 0x800_0000) }
-    requires room { Room limit (held rows cols values at) }
-    ensures puts { Puts limit (susceptance_row c wiring.now readings.now i) (held rows.entry cols.entry values.entry at) (held rows.exit cols.exit values.exit result) }
-    ensures most { result ≤ at + 256 }
+// Row i, into the sheets. Of its two calls only the first is kkt_cells' too.
+fn put_row(ends: &Ends<'_>, i: usize, acc: &mut [f64], hit: &mut [u32], sink: &mut Sink<'_>)
+    requires row_room { RowRoom ends.now.grid.plan.counts.buses acc.old hit.old }
+    requires i_lt_buses { (i < ends.now.grid.plan.counts.buses) × (sink.old.count < 0x800_0000) }
+    ensures puts { Gains (susceptance_row ends.now.grid.plan.counts ends.now.grid.plan.wiring.now ends.now.grid.plan.readings.now i) sink.old sink.new }
+    ensures most { sink.new.count ≤ sink.old.count + 256 }
 {
-    make_row(wiring, readings, c, head, next, i, acc, hit);
-    put_cells(c.buses, acc, hit, i, rows, cols, values, limit, at)
+    make_row(ends, i, acc, hit);
+    put_cells(ends.grid.plan.counts.buses, acc, hit, i, sink);
 }
 
 // The susceptance list into three sheets, below a limit: counted always, stored below it.
-pub fn put_susceptance(
-    wiring: &[u32],
-    readings: &[f64],
-    c: Counts,
-    rows: &mut [u32],
-    cols: &mut [u32],
-    values: &mut [f64],
-    limit: usize,
-) -> usize
-    requires wired { Wired c wiring.now }
-    requires readings_laid { ReadingsLaid c readings.now }
-    requires room { Room limit (held rows cols values 0) }
-    ensures puts { Puts limit (susceptance_coo c wiring.now readings.now) (held rows.entry cols.entry values.entry 0) (held rows.exit cols.exit values.exit result) }
-    ensures most { result ≤ 0x1_0000 }
+pub fn put_susceptance(grid: &Grid<'_>, sink: &mut Sink<'_>)
+    requires { sink.old.count ≡ 0 }
+    ensures puts { Gains (susceptance_coo grid.now.plan.counts grid.now.plan.wiring.now grid.now.plan.readings.now) sink.old sink.new }
+    ensures most { sink.new.count ≤ 0x1_0000 }
 {
     let mut head = [0u32; 256];
     let mut next = [0u32; 1024];
     let mut acc = [0.0; 256];
     let mut hit = [0u32; 272];
-    link_ends(wiring, c, &mut head, &mut next);
-    let n = c.buses;
-    let mut k = 0;
+    link_ends(grid.plan.wiring, grid.plan.counts, &mut head, &mut next);
+    let ends = Ends {
+        grid: *grid,
+        head: &head,
+        next: &next,
+    };
+    let n = grid.plan.counts.buses;
     for i in 0..n {
-        k = put_row(
-            wiring, readings, c, &head, &next, i, &mut acc, &mut hit, rows, cols, values, limit, k,
-        );
+        put_row(&ends, i, &mut acc, &mut hit, sink);
     }
-    k
 }

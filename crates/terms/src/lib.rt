@@ -1,7 +1,7 @@
 // The terms as small records, each an index and a coefficient, by value or as a lent slice: taken apart into two arrays for the model's own call.
 #![tactic(auto)]
 
-ghost use Rattle.std.specs.Prelude.{◌≡◌, ℕ, ◌≤◌, length};
+ghost use Rattle.std.specs.Prelude.{◌≡◌, ◌≤◌, length};
 ghost use Rattle.sequence.specs.Answers.{answered};
 ghost use Rattle.model.specs.Calls.{evaluate_call};
 ghost use Rattle.terms.specs.Terms.{Apart, network_of, array_call};

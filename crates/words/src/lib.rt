@@ -1,7 +1,7 @@
 // Words and doubles in bytes, the lowest byte first, and back.
 #![tactic(auto)]
 
-ghost use Rattle.std.specs.Prelude.{◌≡◌, ◌+◌, ◌*◌, ◌≤◌, ◌<◌, length, get_or, take};
+ghost use Rattle.std.specs.Prelude.{◌≡◌, ◌+◌, ◌*◌, ◌≤◌, ◌<◌, length, take};
 ghost use Rattle.std.proofs.lemmas.List.Edits.{sets};
 ghost use Rattle.std.specs.Float.{binary64};
 ghost use Rattle.std.specs.Float.Ieee.{of_bits, to_bits};
@@ -61,6 +61,7 @@ pub fn decode_words(bytes: &[u8], n: usize, into: &mut [u32])
     ensures into_after { into.new ≡ front (made (word_at bytes.now) n) into.old }
     ensures kept { length into.new ≡ length into.old }
 {
+    // Each word is made of its index: four bytes stand at 4 i.
     for i in 0..n {
         into[i] = word32(bytes, 4 * i);
     }
@@ -72,6 +73,7 @@ pub fn decode_doubles(bytes: &[u8], n: usize, into: &mut [f64])
     ensures into_after { into.new ≡ front (made (double_at bytes.now) n) into.old }
     ensures kept { length into.new ≡ length into.old }
 {
+    // Each double is made of its index: eight bytes stand at 8 i.
     for i in 0..n {
         into[i] = number(word64(bytes, 8 * i));
     }

@@ -340,7 +340,8 @@ fn write_read(root: &str, file: &str, errors: &str) {
         }
         let said = text.split_once(": error: ").map_or(text, |(_, said)| said);
         match whole.get(edit).map(|it| judged(it, false, &statements)) {
-            Some((Kind::Fact, error)) if error.contains(said) => println!("{edit}: {said}"),
+            // Where it cuts a quoted term, rt closes the quote.
+            Some((Kind::Fact, error)) if error.contains(said.trim_end_matches('`')) => println!("{edit}: {said}"),
             Some((kind, error)) => eprintln!("{edit}: {kind:?}: {error}"),
             None => eprintln!("{edit}: nothing is said of it"),
         }

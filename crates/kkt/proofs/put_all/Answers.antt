@@ -7,4 +7,4 @@ pub loop-triplet-init : goal.loop-triplet-init
 loop-triplet-init n c = (all_begin, omega arith)
 
 pub loop-triplet-preserved : goal.loop-triplet-preserved
-loop-triplet-preserved n c = (all_more c.args.triplets c.loop-triplet.triplet-index _ (omega arith) c.loop-triplet.invariant.0 c.put-k.ensures.puts, omega (arith, c.put-k.ensures.most))
+loop-triplet-preserved n c = (all_more c.args.triplets c.loop-triplet.triplet-index _ (omega arith) c.loop-triplet.invariant.0 c.put.ensures.puts, omega (arith, c.put.ensures.most))

@@ -2,7 +2,7 @@
 use Prim.Native.Nat.{◌+◌, ◌*◌, ◌-◌, ◌≤◌}
 use mathlib.Core.Path.{◌≡◌}
 use Rattle.sequence.specs.Lists.{each}
-use Rattle.sequence.specs.Sheets.{Puts, sheets}
+use Rattle.sequence.specs.Sinks.{Gains}
 use Rattle.network.specs.Layout.{reading}
 use Rattle.solution.specs.Sheet.{solved}
 use Rattle.kkt_index.specs.Index.{start_in}
@@ -12,10 +12,10 @@ use Rattle.kkt.specs.Slots.Rule.{first_place}
 use Rattle.kkt_buses.proofs.put_angles.Given as goal
 
 abbrev pub invariant-loop-j : goal.invariant-loop-j
-invariant-loop-j l = Puts l.limit (emitted (start_in l.x) (reading l.c l.readings) (solved l.c l.x.pieces l.sheet) (each l.j (va_column first_place l.c l.wiring))) (sheets l.initial.rows l.initial.cols l.initial.values l.at) (sheets l.rows l.cols l.values l.k)
-    × (l.k ≤ l.at + 4353 * l.j)
+invariant-loop-j l = Gains (emitted (start_in l.kkt.index) (reading l.kkt.grid.plan.counts l.kkt.grid.plan.readings.now) (solved l.kkt.grid.plan.counts l.kkt.index.pieces l.kkt.sheet.now) (each l.j (va_column first_place l.kkt.grid.plan.counts l.kkt.grid.plan.wiring.now))) l.initial.sink l.sink
+    × (l.sink.count ≤ l.initial.sink.count + 4353 * l.j)
     × (l.j ≤ l.to)
-    × (l.to ≡ l.c.buses)
+    × (l.to ≡ l.kkt.grid.plan.counts.buses)
     × (l.to ≤ 256)
 
 abbrev pub decreases-loop-j : goal.decreases-loop-j

@@ -2,25 +2,25 @@
 use mathlib.Core.Path.{ap}
 use Prim.Native.Nat.{ℕ, ◌≤◌}
 use native.Mathlib.Omega.{arith}
-use Rattle.sequence.proofs.Sheets.{put_of}
+use Rattle.sequence.proofs.Sinks.{put_of}
 use Rattle.kkt_cells.proofs.Cells.{replay_begin, replay_more, to_fits, bus_low, replayed_less, replayed_as_is}
 use Rattle.kkt_cells.proofs.put_kept.Goals as goal
 use Rattle.kkt_cells.proofs.put_kept.Goals.{then-less, else-less}
 
 pub overflow_add-from-else-less : goal.overflow_add-from-else-less
-overflow_add-from-else-less c = omega (arith, c.start-nu_bal.ensures, c.requires.lent.wired.laid.few, c.requires.j_lt_buses)
+overflow_add-from-else-less c = omega (arith, c.start-nu_bal.ensures, c.args.kkt.now.grid.wired.laid.few, c.requires.j_lt_buses)
 
 pub overflow_add-from : goal.overflow_add-from
-overflow_add-from c = omega (arith, c.start-va.ensures, c.requires.lent.wired.laid.few, c.requires.j_lt_buses)
+overflow_add-from c = omega (arith, c.start-va.ensures, c.args.kkt.now.grid.wired.laid.few, c.requires.j_lt_buses)
 
 pub bounds-starts-j : goal.bounds-starts-j
 bounds-starts-j c = omega (arith, c.requires.kept.starts_fit, c.requires.j_lt_buses)
 
 pub overflow_add-j : goal.overflow_add-j
-overflow_add-j c = omega (arith, c.requires.lent.wired.laid.few, c.requires.j_lt_buses)
+overflow_add-j c = omega (arith, c.args.kkt.now.grid.wired.laid.few, c.requires.j_lt_buses)
 
 pub offset_bounds-starts-j-2 : goal.offset_bounds-starts-j-2
-offset_bounds-starts-j-2 c = omega (arith, c.requires.lent.wired.laid.few, c.requires.j_lt_buses)
+offset_bounds-starts-j-2 c = omega (arith, c.args.kkt.now.grid.wired.laid.few, c.requires.j_lt_buses)
 
 pub bounds-starts-j-2 : goal.bounds-starts-j-2
 bounds-starts-j-2 c = omega (arith, c.requires.kept.starts_fit, c.requires.j_lt_buses)
@@ -33,27 +33,20 @@ pub cell_item-requires : goal.cell_item-requires
 cell_item-requires c = let t = c.loop-t-test in
     let b = c.start-nu_bal.ensures in
     let a = c.start-va.ensures in
-    let few = c.requires.lent.wired.laid.few in
+    let few = c.args.kkt.now.grid.wired.laid.few in
     let z : (c.if-less.from.0 ≤ 0x2_0000) × (c.if-less.from.1 ≤ 0x2_0000) = elim c.if-less.branch [ then-less w ↦ rw w.from-is (omega (arith, a, b, few, c.requires.j_lt_buses)) | else-less w ↦ rw w.from-is (omega (arith, a, b, few, c.requires.j_lt_buses)) ] in
     let i = bus_low c.requires.kept _ c.requires.j_lt_buses.0 c.wide-first.ensures.0 c.wide-to.ensures.0 _ c.loop-t.invariant.2 t.true in
     (z.0, z.1, omega (arith, i, c.wide.ensures, few))
 
-pub put-k-requires : goal.put-k-requires
-put-k-requires c = let i = c.loop-t.invariant in
-    let m = c.requires.room in
-    record {
-      in_rows = omega (arith, i.0.rows_kept, m.in_rows);
-      in_cols = omega (arith, i.0.cols_kept, m.in_cols);
-      in_values = omega (arith, i.0.values_kept, m.in_values);
-      far = omega (arith, i.1, i.3, i.4, c.requires.j_lt_buses);
-    }
+pub put-requires : goal.put-requires
+put-requires c = let i = c.loop-t.invariant in omega (arith, i.1, i.3, i.4, c.requires.j_lt_buses)
 
 pub loop-t-preserved : goal.loop-t-preserved
 loop-t-preserved c = let w = c.wide.ensures.0 in
     let t = c.loop-t-test in
     let i = c.loop-t.invariant in (
-      replay_more c.args.less c.if-less.from.0 c.if-less.from.1 c.args.buses.now c.args.sums.now c.wide-first.result c.loop-t.t i.2 i.0 (put_of (rw w at c.cell_item.ensures) c.put-k.ensures.puts),
-      omega (arith, c.put-k.ensures.most, i.1, i.2),
+      replay_more c.args.less c.if-less.from.0 c.if-less.from.1 c.args.buses.now c.args.sums.now c.wide-first.result c.loop-t.t i.2 i.0 (put_of (rw w at c.cell_item.ensures) c.put.ensures.puts),
+      omega (arith, c.put.ensures.most, i.1, i.2),
       omega (arith, i.2),
       omega (arith, t),
       i.4,
@@ -72,8 +65,4 @@ returns-clause-puts c = let i = c.loop-t.invariant in
     ]
 
 pub returns-clause-most : goal.returns-clause-most
-returns-clause-most c = let i = c.loop-t.invariant in
-    let b = c.start-nu_bal.ensures.0 in
-    let a = c.start-va.ensures.0 in
-    let wa = c.wide-first.ensures.0 in
-    let wb = c.wide-to.ensures.0 in omega (arith, i.1, i.3, i.4)
+returns-clause-most c = let i = c.loop-t.invariant in omega (arith, i.1, i.3, i.4)

@@ -2,13 +2,13 @@
 use Prim.Native.Nat.{◌+◌, ◌-◌, ◌≤◌}
 use lib.ListN.{length}
 use Rattle.sequence.specs.Lists.{each}
-use Rattle.sequence.specs.Sheets.{Puts, sheets}
+use Rattle.sequence.specs.Sinks.{Gains}
 use Rattle.kkt_cells.proofs.Cells.{replay}
 use Rattle.kkt_cells.proofs.put_kept.Given as goal
 
 abbrev pub invariant-loop-t : goal.invariant-loop-t
-invariant-loop-t l = Puts l.limit (each (l.t - l.first) (replay l.less l.from l.col l.buses l.sums l.first)) (sheets l.initial.rows l.initial.cols l.initial.values l.at) (sheets l.rows l.cols l.values l.k)
-    × (l.k ≤ l.at + (l.t - l.first))
+invariant-loop-t l = Gains (each (l.t - l.first) (replay l.less l.from l.col l.buses l.sums l.first)) l.initial.sink l.sink
+    × (l.sink.count ≤ l.initial.sink.count + (l.t - l.first))
     × (l.first ≤ l.t)
     × (l.t ≤ l.to)
     × (l.to ≤ 1280)

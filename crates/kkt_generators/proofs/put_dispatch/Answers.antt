@@ -1,40 +1,17 @@
--- `kkt_generators::put_dispatch` meets its contract: its four entries. Assumes nothing.
+-- `kkt_generators::put_dispatch` meets its contract: each generator's own entries and its segments'. Assumes nothing.
 use native.Mathlib.Omega.{arith}
-use Rattle.kkt.proofs.Emitted.{puts_all}
-use Rattle.kkt_generators.proofs.Segments.{two_bits}
+use Rattle.network.specs.Layout.{reading}
+use Rattle.solution.specs.Sheet.{solved}
+use Rattle.kkt_index.specs.Index.{start_in}
+use Rattle.kkt.specs.Slots.{pg_own, pg_segment}
+use Rattle.kkt.specs.Matrix.{emitted}
+use Rattle.kkt_generators.proofs.Turns.{all_is, three_are, turns_put}
 use Rattle.kkt_generators.proofs.put_dispatch.Goals as goal
 
-pub entry-requires-clause-narrow : goal.entry-requires-clause-narrow
-entry-requires-clause-narrow c = c.requires.lent.narrow
-
-pub entry-requires-clause-i_bound : goal.entry-requires-clause-i_bound
-entry-requires-clause-i_bound c = (omega (arith, c.requires.lent.read.few, c.requires.j_lt_generators), omega (arith, c.requires.lent.read.few, c.requires.j_lt_generators))
-
-pub entry-requires-2-clause-narrow : goal.entry-requires-2-clause-narrow
-entry-requires-2-clause-narrow c = c.requires.lent.narrow
-
-pub entry-requires-2-clause-i_bound : goal.entry-requires-2-clause-i_bound
-entry-requires-2-clause-i_bound c = (omega (arith, c.requires.lent.read.few, c.requires.j_lt_generators), omega (arith, c.requires.lent.read.few, c.requires.j_lt_generators))
-
-pub entry-requires-3-clause-narrow : goal.entry-requires-3-clause-narrow
-entry-requires-3-clause-narrow c = c.requires.lent.narrow
-
-pub entry-requires-3-clause-i_bound : goal.entry-requires-3-clause-i_bound
-entry-requires-3-clause-i_bound c = (omega (arith, c.requires.lent.read.few, c.requires.j_lt_generators), omega (arith, c.requires.lent.read.few, c.requires.j_lt_generators))
-
-pub entry-requires-4-clause-narrow : goal.entry-requires-4-clause-narrow
-entry-requires-4-clause-narrow c = c.requires.lent.narrow
-
-pub entry-requires-4-clause-i_bound : goal.entry-requires-4-clause-i_bound
-entry-requires-4-clause-i_bound c = (omega (arith, c.requires.lent.read.few, c.requires.lent.wired.gen_buses c.args.j c.requires.j_lt_generators.0, c.word-bus.ensures.0), omega (arith, c.requires.lent.read.few, c.requires.j_lt_generators))
-
-pub put_all-requires : goal.put_all-requires
-put_all-requires c = omega (arith, c.requires.room, c.requires.j_lt_generators)
-
 pub returns-clause-puts : goal.returns-clause-puts
-returns-clause-puts c = puts_all _ _ _ _
-    (rw (c.entry-4.ensures, c.entry-3.ensures, c.entry-2.ensures, c.entry.ensures, c.word-bus.ensures.0, c.solved_at-upper.ensures, c.solved_at-lower.ensures, c.reading-curvature.ensures, two_bits))
-    c.put_all.ensures.puts
-
-pub returns-clause-most : goal.returns-clause-most
-returns-clause-most c = c.put_all.ensures.most
+returns-clause-puts c = let a = c.args in
+    let b = start_in a.kkt.now.index in
+    let R = reading a.kkt.now.grid.plan.counts a.kkt.now.grid.plan.readings.now in
+    let S = solved a.kkt.now.grid.plan.counts a.kkt.now.index.pieces a.kkt.now.sheet.now in
+    turns_put b R S a.kkt.now.grid.plan.counts a.kkt.now.grid.plan.wiring.now (λ j. pg_own a.kkt.now.grid.plan.counts a.kkt.now.grid.plan.wiring.now j) pg_segment a.kkt.now.grid.plan.counts.generators
+    (c.put_turns.ensures.puts (λ j. emitted b R S (pg_own a.kkt.now.grid.plan.counts a.kkt.now.grid.plan.wiring.now j)) (λ j g s. emitted b R S (pg_segment j g s)) (λ j r p. all_is b R S (pg_own a.kkt.now.grid.plan.counts a.kkt.now.grid.plan.wiring.now j) p) (λ j g s r p. three_are b R S (pg_segment j g s) (omega arith) p))

@@ -1,7 +1,7 @@
 -- `kkt_list::put_blocks` meets its contract: a block more each turn. Assumes nothing.
 use Prim.Native.Nat.{◌*◌, ◌-◌, ◌≤◌}
 use Rattle.sequence.specs.Lists.{each}
-use Rattle.sequence.specs.Sheets.{Puts, sheets}
+use Rattle.sequence.specs.Sinks.{Gains}
 use Rattle.network.specs.Layout.{reading}
 use Rattle.solution.specs.Sheet.{solved}
 use Rattle.kkt_index.specs.Index.{start_in}
@@ -11,8 +11,8 @@ use Rattle.kkt.specs.Matrix.{emitted}
 use Rattle.kkt_list.proofs.put_blocks.Given as goal
 
 abbrev pub invariant-loop-k : goal.invariant-loop-k
-invariant-loop-k l = Puts l.limit (emitted (start_in l.x) (reading l.c l.readings) (solved l.c l.x.pieces l.sheet) (each l.k (λ k. block_slots (site_of first_place l.c l.wiring l.readings l.term_index l.term_coefficient) (emission_at k)))) (sheets l.initial.rows l.initial.cols l.initial.values 0) (sheets l.rows l.cols l.values l.at)
-    × (l.at ≤ 0x18_0000 * l.k)
+invariant-loop-k l = Gains (emitted (start_in l.site.kkt.index) (reading l.site.kkt.grid.plan.counts l.site.kkt.grid.plan.readings.now) (solved l.site.kkt.grid.plan.counts l.site.kkt.index.pieces l.site.kkt.sheet.now) (each l.k (λ k. block_slots (site_of first_place l.site.kkt.grid.plan.counts l.site.kkt.grid.plan.wiring.now l.site.kkt.grid.plan.readings.now l.site.term_index.now l.site.term_coefficient.now) (emission_at k)))) l.initial.sink l.sink
+    × (l.sink.count ≤ 0x18_0000 * l.k)
     × (l.k ≤ 18)
 
 abbrev pub decreases-loop-k : goal.decreases-loop-k

@@ -4,4 +4,4 @@ use Rattle.kkt_short.proofs.gamma_lb_column.Goals as goal
 
 pub returns : goal.returns
 returns c = let a = c.args in
-    rw (c.ends_column.ensures, c.reading.ensures, c.angle.ensures (reading a.c a.readings.now), c.reading-sw.ensures)
+    rw (c.ends_column.ensures, c.reading.ensures, c.angle-across.ensures (reading a.kkt.now.grid.plan.counts a.kkt.now.grid.plan.readings.now), c.reading-sw.ensures)

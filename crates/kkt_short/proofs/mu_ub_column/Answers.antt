@@ -6,4 +6,4 @@ use Rattle.kkt_short.proofs.mu_ub_column.Goals as goal
 pub returns : goal.returns
 unfolding shed_cap
 returns c = let a = c.args in
-    rw (c.bound_column.ensures, c.if_fixed.ensures, c.shed_of.ensures, c.shed_cap_at.ensures, c.is_fixed_zero_shed-fixed.ensures (solved a.c a.x.pieces a.sheet.now))
+    rw (c.bound_column.ensures, c.if_fixed.ensures, c.shed_of.ensures, c.shed_cap_at.ensures, c.is_fixed_zero_shed-fixed.ensures (solved a.kkt.now.grid.plan.counts a.kkt.now.index.pieces a.kkt.now.sheet.now))

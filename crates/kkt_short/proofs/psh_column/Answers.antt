@@ -4,17 +4,11 @@ use Rattle.solution.specs.Sheet.{solved}
 use native.Mathlib.Omega.{arith}
 use Rattle.kkt_short.proofs.psh_column.Goals as goal
 
-pub entry-requires-2-clause-narrow : goal.entry-requires-2-clause-narrow
-entry-requires-2-clause-narrow c = c.requires.lent.narrow
-
 pub entry-requires-2-clause-i_bound : goal.entry-requires-2-clause-i_bound
-entry-requires-2-clause-i_bound c = (omega (arith, c.requires.i_lt_buses, c.requires.lent.read.few.buses), omega (arith, c.requires.i_lt_buses, c.requires.lent.read.few.buses))
-
-pub entry-requires-3-clause-narrow : goal.entry-requires-3-clause-narrow
-entry-requires-3-clause-narrow c = c.requires.lent.narrow
+entry-requires-2-clause-i_bound c = (omega (arith, c.requires, c.args.kkt.now.grid.plan.readings_laid.few.buses), omega (arith, c.requires, c.args.kkt.now.grid.plan.readings_laid.few.buses))
 
 pub entry-requires-3-clause-i_bound : goal.entry-requires-3-clause-i_bound
-entry-requires-3-clause-i_bound c = (omega (arith, c.requires.i_lt_buses, c.requires.lent.read.few.buses), omega (arith, c.requires.i_lt_buses, c.requires.lent.read.few.buses))
+entry-requires-3-clause-i_bound c = (omega (arith, c.requires, c.args.kkt.now.grid.plan.readings_laid.few.buses), omega (arith, c.requires, c.args.kkt.now.grid.plan.readings_laid.few.buses))
 
 pub returns : goal.returns
 unfolding shed_cap
@@ -28,9 +22,9 @@ returns c = let a = c.args in
       c.if_fixed.ensures,
       c.by_state.ensures,
       c.bus_state-state.ensures,
-      c.solved_at-upper.ensures,
-      c.solved_at-lower.ensures,
-      c.solved_at-shed.ensures,
+      c.value-upper.ensures,
+      c.value-lower.ensures,
+      c.value-shed.ensures,
       c.shed_cap_at-cap.ensures,
-      c.is_fixed_zero_shed-fixed.ensures (solved a.c a.x.pieces a.sheet.now),
+      c.is_fixed_zero_shed-fixed.ensures (solved a.kkt.now.grid.plan.counts a.kkt.now.index.pieces a.kkt.now.sheet.now),
     )

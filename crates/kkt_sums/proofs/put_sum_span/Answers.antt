@@ -1,7 +1,7 @@
 -- `kkt_sums::put_sum_span` meets its contract: a sum more each turn. Assumes nothing.
 use mathlib.Core.Bool.{false}
 use native.Mathlib.Omega.{arith}
-use Rattle.sequence.proofs.Sheets.{begin, more, done, none, put_of}
+use Rattle.sequence.proofs.Sinks.{begin, more, done, none, put_of}
 use Rattle.kkt.specs.Walks.{span_of}
 use Rattle.kkt_sums.proofs.Sums.{span_none}
 use Rattle.kkt_sums.proofs.put_sum_span.Goals as goal
@@ -13,7 +13,7 @@ pub loop-i-init : goal.loop-i-init
 loop-i-init c = (begin _, omega arith, omega arith)
 
 pub loop-i-preserved : goal.loop-i-preserved
-loop-i-preserved c = (more _ _ c.loop-i.invariant.0 (put_of c.sum_item.ensures c.put-k.ensures.puts), omega (arith, c, c), omega (arith, c, c))
+loop-i-preserved c = (more _ _ c.loop-i.invariant.0 (put_of c.sum_item.ensures c.put.ensures.puts), omega (arith, c, c), omega (arith, c, c))
 
 pub returns-clause-puts : goal.returns-clause-puts
 unfolding span_of

@@ -13,7 +13,7 @@ returns c = let inequal = c.count_inequalities.ensures in
     let line = c.count_flags.ensures in (
       rw (inequal.0, equal.0, piece.0, phase.0, shed.0, gen.0, line.0),
       record {
-        few = c.requires.wiring_laid.few;
+        few = c.args.plan.now.wiring_laid.few;
         few_lines = line.1;
         few_generators = gen.1;
         few_sheds = shed.1;

@@ -1,14 +1,19 @@
--- `opf_layout::count_flags` meets its contract. The loop's invariant: the flags passed that are set. Assumes nothing.
-use mathlib.Core.Path.{ap}
-use mathlib.Core.Bool.{not}
-use Prim.Native.Nat.{ℕ}
-use native.Mathlib.Omega.{arith}
-use lib.Dec.{eqb}
-use Rattle.opf_layout.proofs.Counting.{rank_none, rank_more}
+-- `opf_layout::count_flags` meets its contract: the iterator counts the flags that are set. Assumes nothing.
+use Rattle.std.proofs.Common.{rules, ◌≡◌, ℕ, ◌∙◌, ap, arith}
+use Rattle.sequence.proofs.Sums.{range_sum, range_fits}
+use Rattle.network.specs.Layout.{part_size}
+use Rattle.opf_layout.specs.Layout.{active_rank, flagged}
+use Rattle.opf_layout.proofs.Ranks.{one_of, rank_few}
 use Rattle.opf_layout.proofs.count_flags.Goals as goal
 
-pub loop-i-preserved : goal.loop-i-preserved
-loop-i-preserved c = (omega arith, c.loop-i.invariant.1, rank_more _ c.loop-i.i c.loop-i.invariant.2 c.one_if-count.ensures.0 (ap (λ (x : ℕ). not (eqb x 0)) c.word.ensures.0), omega arith)
+pub sum-requires-clause-fits : goal.sum-requires-clause-fits
+unfolding active_rank
+sum-requires-clause-fits c =
+    range_fits _ (one_of (flagged c.args.c c.args.wiring.now c.args.p)) (part_size c.args.c c.args.p) (c.map.ensures.source ∙ ap (λ (k : ℕ). record { start = 0; end = k }) c.part_size.ensures) c.map.ensures.closure (λ x r q k. search rules) _
+    (omega (arith, c.requires, rank_few (flagged c.args.c c.args.wiring.now c.args.p) (part_size c.args.c c.args.p)))
 
-pub loop-i-init : goal.loop-i-init
-loop-i-init c = (omega arith, c.part_size-to.ensures, rank_none _, omega arith)
+pub returns : goal.returns
+unfolding active_rank
+returns c =
+    let e : c.sum.result ≡ active_rank (flagged c.args.c c.args.wiring.now c.args.p) (part_size c.args.c c.args.p) = range_sum _ (one_of (flagged c.args.c c.args.wiring.now c.args.p)) _ (c.map.ensures.source ∙ ap (λ (k : ℕ). record { start = 0; end = k }) c.part_size.ensures) c.map.ensures.closure (λ x r q k. search rules) _ c.sum.ensures.ran in
+    (e, omega (arith, e, rank_few (flagged c.args.c c.args.wiring.now c.args.p) (part_size c.args.c c.args.p)))

@@ -1,18 +1,18 @@
--- `opf_layout::count_inequalities` meets its contract. The loop's invariant: the inequalities of the linear rows passed. Assumes nothing.
-use mathlib.Core.Path.{◌≡◌, refl}
-use native.Mathlib.Omega.{arith}
-use Rattle.sequence.proofs.Lists.{before_none, before_more}
+-- `opf_layout::count_inequalities` meets its contract: the iterator sums the inequalities of each linear row. Assumes nothing.
+use Rattle.std.proofs.Common.{rules, ◌≡◌, arith}
+use Rattle.sequence.proofs.Sums.{range_sum, range_fits}
 use Rattle.opf_layout.specs.Layout.{inequality_rank}
-use Rattle.opf_layout.proofs.Counting.{inequalities_few}
+use Rattle.opf_layout.proofs.Ranks.{limit, inequality_few}
 use Rattle.opf_layout.proofs.count_inequalities.Goals as goal
 
-pub loop-q-preserved : goal.loop-q-preserved
-loop-q-preserved c = (omega arith, refl, rw (before_more, ← c.loop-q.invariant.2, c.inequalities_of-count.ensures, c.row_limits.ensures), omega (arith, c.inequalities_of-count.ensures, inequalities_few c.row_limits.result))
+pub sum-requires-clause-fits : goal.sum-requires-clause-fits
+unfolding inequality_rank
+sum-requires-clause-fits c =
+    range_fits _ (limit c.args.plan.now.counts c.args.plan.now.wiring.now c.args.plan.now.readings.now) c.args.plan.now.counts.rows c.map.ensures.source c.map.ensures.closure (λ x r q k. search rules) _
+    (omega (arith, c.requires, inequality_few c.args.plan.now.counts c.args.plan.now.wiring.now c.args.plan.now.readings.now c.args.plan.now.counts.rows))
 
 pub returns : goal.returns
 unfolding inequality_rank
-returns c = let e : c.loop-q.q ≡ c.args.c.rows = omega arith in
-    (rw e at c.loop-q.invariant.2, omega arith)
-
-pub loop-q-init : goal.loop-q-init
-loop-q-init c = (omega arith, refl, before_none _, omega arith)
+returns c =
+    let e : c.sum.result ≡ inequality_rank c.args.plan.now.counts c.args.plan.now.wiring.now c.args.plan.now.readings.now c.args.plan.now.counts.rows = range_sum _ (limit c.args.plan.now.counts c.args.plan.now.wiring.now c.args.plan.now.readings.now) _ c.map.ensures.source c.map.ensures.closure (λ x r q k. search rules) _ c.sum.ensures.ran in
+    (e, omega (arith, e, inequality_few c.args.plan.now.counts c.args.plan.now.wiring.now c.args.plan.now.readings.now c.args.plan.now.counts.rows))

@@ -4,4 +4,4 @@ use Rattle.opf_problem.proofs.Bound.{a_length, most_fits}
 use Rattle.opf_problem.proofs.a_is_short.Goals as goal
 
 pub returns-then-most_a-room : goal.returns-then-most_a-room
-returns-then-most_a-room c = let a = c.args in most_fits _ (most_a a.c) a.room (a_length a.c a.wiring.now a.readings.now a.term_index.now a.term_coefficient.now c.requires.wired) (rw c.most_a.ensures at c.if-most_a-room.true)
+returns-then-most_a-room c = let a = c.args in most_fits _ (most_a a.draft.now.site.grid.plan.counts) a.room (a_length a.draft.now.site.grid.plan.counts a.draft.now.site.grid.plan.wiring.now a.draft.now.site.grid.plan.readings.now a.draft.now.site.term_index.now a.draft.now.site.term_coefficient.now c.args.draft.now.site.grid.wired) (rw c.most_a.ensures at c.if-most_a-room.true)

@@ -1,5 +1,5 @@
 -- `opf_problem::lay_a` meets its contract: one pass, below the room. Assumes nothing.
-use mathlib.Core.Path.{refl}
+use mathlib.Core.Path.{refl, sym}
 use native.Mathlib.Nat.{le_of_eq}
 use Rattle.sequence.proofs.Sheets.{once}
 use Rattle.opf_layout.specs.Layout.{active_of}
@@ -8,7 +8,10 @@ use Rattle.opf_problem.proofs.lay_a.Goals as goal
 
 pub put_a-requires-clause-placed : goal.put_a-requires-clause-placed
 put_a-requires-clause-placed c = let a = c.args in
-    (c.requires.laid.placed, narrow a.c (active_of a.c a.wiring.now a.readings.now) a.lay c.requires.laid.bounded c.requires.laid.placed)
+    (c.args.draft.now.placed, narrow a.draft.now.site.grid.plan.counts (active_of a.draft.now.site.grid.plan.counts a.draft.now.site.grid.plan.wiring.now a.draft.now.site.grid.plan.readings.now) a.draft.now.layout c.args.draft.now.bounded c.args.draft.now.placed)
 
 pub returns : goal.returns
-returns c = let e = c.room-limit.ensures in once refl c.put_a.ensures.puts (rw e c.requires.term_coefficient_len_bound) (le_of_eq e)
+returns c = let e = c.room-limit.ensures in
+    let q = c.put_a.ensures.puts in
+    rw (c.rows-1.given.1.1 (sym q.same_rows), c.cols-1.given.1.1 (sym q.same_cols), c.values-1.given.1.1 (sym q.same_values))
+    (once refl q.puts (rw e c.requires) (le_of_eq e))

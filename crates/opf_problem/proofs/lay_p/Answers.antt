@@ -1,5 +1,5 @@
 -- `opf_problem::lay_p` meets its contract: one pass, below the room. Assumes nothing.
-use mathlib.Core.Path.{refl}
+use mathlib.Core.Path.{refl, sym}
 use native.Mathlib.Nat.{le_of_eq}
 use Rattle.sequence.proofs.Sheets.{once}
 use Rattle.opf_layout.specs.Layout.{active_of}
@@ -8,7 +8,10 @@ use Rattle.opf_problem.proofs.lay_p.Goals as goal
 
 pub put_p-requires-clause-narrow : goal.put_p-requires-clause-narrow
 put_p-requires-clause-narrow c = let a = c.args in
-    narrow a.c (active_of a.c a.wiring.now a.readings.now) a.lay c.requires.laid.bounded c.requires.laid.placed
+    narrow a.draft.now.site.grid.plan.counts (active_of a.draft.now.site.grid.plan.counts a.draft.now.site.grid.plan.wiring.now a.draft.now.site.grid.plan.readings.now) a.draft.now.layout c.args.draft.now.bounded c.args.draft.now.placed
 
 pub returns : goal.returns
-returns c = let a = c.args in let e = c.room-limit.ensures in once refl (c.put_p.ensures.puts (active_of a.c a.wiring.now a.readings.now) c.requires.laid.placed) (rw e c.requires.readings_len_bound) (le_of_eq e)
+returns c = let a = c.args in let e = c.room-limit.ensures in
+    let q = c.put_p.ensures.puts (active_of a.draft.now.site.grid.plan.counts a.draft.now.site.grid.plan.wiring.now a.draft.now.site.grid.plan.readings.now) c.args.draft.now.placed in
+    rw (c.rows-1.given.1.1 (sym q.same_rows), c.cols-1.given.1.1 (sym q.same_cols), c.values-1.given.1.1 (sym q.same_values))
+    (once refl q.puts (rw e c.requires) (le_of_eq e))

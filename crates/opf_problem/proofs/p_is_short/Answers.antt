@@ -2,5 +2,5 @@
 use Rattle.opf_problem.proofs.Bound.{p_length, most_fits}
 use Rattle.opf_problem.proofs.p_is_short.Goals as goal
 
-pub returns-then-c-room : goal.returns-then-c-room
-returns-then-c-room c = let a = c.args in most_fits _ a.c.generators a.room (p_length a.c a.wiring.now a.readings.now) c.if-c-room.true
+pub returns-then-draft-room : goal.returns-then-draft-room
+returns-then-draft-room c = let a = c.args in most_fits _ a.draft.now.site.grid.plan.counts.generators a.room (p_length a.draft.now.site.grid.plan.counts a.draft.now.site.grid.plan.wiring.now a.draft.now.site.grid.plan.readings.now) c.if-draft-room.true

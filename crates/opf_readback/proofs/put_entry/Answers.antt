@@ -9,15 +9,15 @@ use Rattle.opf_readback.proofs.put_entry.Goals as goal
 
 pub put_block-requires-clause-count_in_bounds : goal.put_block-requires-clause-count_in_bounds
 put_block-requires-clause-count_in_bounds c = let h = c.requires.raw_laid in
-    ((column_room h columns.Va).0, (column_room h columns.Va).1, omega (arith, c.requires.readings_laid.few))
+    ((column_room h columns.Va).0, (column_room h columns.Va).1, omega (arith, c.args.site.now.grid.plan.readings_laid.few))
 
 pub put_block-requires-in-Pg-clause-count_in_bounds : goal.put_block-requires-in-Pg-clause-count_in_bounds
 put_block-requires-in-Pg-clause-count_in_bounds c = let h = c.requires.raw_laid in
-    ((column_room h columns.Pg).0, (column_room h columns.Pg).1, omega (arith, c.requires.readings_laid.few))
+    ((column_room h columns.Pg).0, (column_room h columns.Pg).1, omega (arith, c.args.site.now.grid.plan.readings_laid.few))
 
 pub put_block-requires-in-Flow-clause-count_in_bounds : goal.put_block-requires-in-Flow-clause-count_in_bounds
 put_block-requires-in-Flow-clause-count_in_bounds c = let h = c.requires.raw_laid in
-    ((column_room h columns.Flow).0, (column_room h columns.Flow).1, omega (arith, c.requires.readings_laid.few))
+    ((column_room h columns.Flow).0, (column_room h columns.Flow).1, omega (arith, c.args.site.now.grid.plan.readings_laid.few))
 
 pub put_sheds-requires-clause-buses_in_bounds : goal.put_sheds-requires-clause-buses_in_bounds
 unfolding active_of
@@ -26,7 +26,7 @@ put_sheds-requires-clause-buses_in_bounds c = let h = c.requires.raw_laid in
 
 pub put_turned-requires-clause-count_in_bounds : goal.put_turned-requires-clause-count_in_bounds
 put_turned-requires-clause-count_in_bounds c = let h = c.requires.raw_laid in
-    ((row_room h rows.Balance).0, (row_room h rows.Balance).1, omega (arith, c.requires.readings_laid.few))
+    ((row_room h rows.Balance).0, (row_room h rows.Balance).1, omega (arith, c.args.site.now.grid.plan.readings_laid.few))
 
 pub put_flagged-requires-clause-count_in_bounds : goal.put_flagged-requires-clause-count_in_bounds
 unfolding active_of
@@ -80,7 +80,7 @@ put_block-requires-in-Epigraph-clause-count_in_bounds c = let h = c.requires.raw
 
 pub put_block-requires-in-SegmentDual-clause-count_in_bounds : goal.put_block-requires-in-SegmentDual-clause-count_in_bounds
 put_block-requires-in-SegmentDual-clause-count_in_bounds c = let h = c.requires.raw_laid in
-    ((row_room h rows.Segment).0, (row_room h rows.Segment).1, omega (arith, c.requires.readings_laid.few))
+    ((row_room h rows.Segment).0, (row_room h rows.Segment).1, omega (arith, c.args.site.now.grid.plan.readings_laid.few))
 
 pub put_duals-requires-clause-rows_in_bounds : goal.put_duals-requires-clause-rows_in_bounds
 unfolding active_of
@@ -128,78 +128,78 @@ pub put_values-requires-clause-f_len : goal.put_values-requires-clause-f_len
 put_values-requires-clause-f_len c = let h = c.requires.raw_laid in
     (flows_long h, powers_long h)
 
-pub objective_of-requires-clause-generators_in_bounds : goal.objective_of-requires-clause-generators_in_bounds
-objective_of-requires-clause-generators_in_bounds c = let h = c.requires.raw_laid in
+pub objective_of-requires : goal.objective_of-requires
+objective_of-requires c = let h = c.requires.raw_laid in
     column_room h columns.Pg
 
 pub returns-in-Va : goal.returns-in-Va
 returns-in-Va c = let a = c.args in
-    of_va c.requires.raw_laid a.term_index.now a.term_coefficient.now a.raw a.p a.out.now a.at c.in-Va.is c.put_block.ensures
+    of_va c.requires.raw_laid a.site.now.term_index.now a.site.now.term_coefficient.now a.raw a.p a.out.now a.at c.in-Va.is c.put_block.ensures
 
 pub returns-in-Pg : goal.returns-in-Pg
 returns-in-Pg c = let a = c.args in
-    of_pg c.requires.raw_laid a.term_index.now a.term_coefficient.now a.raw a.p a.out.now a.at c.in-Pg.is c.put_block-in-Pg.ensures
+    of_pg c.requires.raw_laid a.site.now.term_index.now a.site.now.term_coefficient.now a.raw a.p a.out.now a.at c.in-Pg.is c.put_block-in-Pg.ensures
 
 pub returns-in-Flow : goal.returns-in-Flow
 returns-in-Flow c = let a = c.args in
-    of_flow c.requires.raw_laid a.term_index.now a.term_coefficient.now a.raw a.p a.out.now a.at c.in-Flow.is c.put_block-in-Flow.ensures
+    of_flow c.requires.raw_laid a.site.now.term_index.now a.site.now.term_coefficient.now a.raw a.p a.out.now a.at c.in-Flow.is c.put_block-in-Flow.ensures
 
 pub returns-in-Psh : goal.returns-in-Psh
 returns-in-Psh c = let a = c.args in
-    of_psh c.requires.raw_laid a.term_index.now a.term_coefficient.now a.raw a.p a.out.now a.at c.in-Psh.is c.put_sheds.ensures
+    of_psh c.requires.raw_laid a.site.now.term_index.now a.site.now.term_coefficient.now a.raw a.p a.out.now a.at c.in-Psh.is c.put_sheds.ensures
 
 pub returns-in-NuBal : goal.returns-in-NuBal
 returns-in-NuBal c = let a = c.args in
-    of_nu_bal c.requires.raw_laid a.term_index.now a.term_coefficient.now a.raw a.p a.out.now a.at c.in-NuBal.is c.put_turned.ensures
+    of_nu_bal c.requires.raw_laid a.site.now.term_index.now a.site.now.term_coefficient.now a.raw a.p a.out.now a.at c.in-NuBal.is c.put_turned.ensures
 
 pub returns-in-LamUb : goal.returns-in-LamUb
 returns-in-LamUb c = let a = c.args in
-    of_lam_ub c.requires.raw_laid a.term_index.now a.term_coefficient.now a.raw a.p a.out.now a.at c.in-LamUb.is c.put_flagged.ensures
+    of_lam_ub c.requires.raw_laid a.site.now.term_index.now a.site.now.term_coefficient.now a.raw a.p a.out.now a.at c.in-LamUb.is c.put_flagged.ensures
 
 pub returns-in-LamLb : goal.returns-in-LamLb
 returns-in-LamLb c = let a = c.args in
-    of_lam_lb c.requires.raw_laid a.term_index.now a.term_coefficient.now a.raw a.p a.out.now a.at c.in-LamLb.is c.put_flagged-in-LamLb.ensures
+    of_lam_lb c.requires.raw_laid a.site.now.term_index.now a.site.now.term_coefficient.now a.raw a.p a.out.now a.at c.in-LamLb.is c.put_flagged-in-LamLb.ensures
 
 pub returns-in-RhoUb : goal.returns-in-RhoUb
 returns-in-RhoUb c = let a = c.args in
-    of_rho_ub c.requires.raw_laid a.term_index.now a.term_coefficient.now a.raw a.p a.out.now a.at c.in-RhoUb.is c.put_flagged-in-RhoUb.ensures
+    of_rho_ub c.requires.raw_laid a.site.now.term_index.now a.site.now.term_coefficient.now a.raw a.p a.out.now a.at c.in-RhoUb.is c.put_flagged-in-RhoUb.ensures
 
 pub returns-in-RhoLb : goal.returns-in-RhoLb
 returns-in-RhoLb c = let a = c.args in
-    of_rho_lb c.requires.raw_laid a.term_index.now a.term_coefficient.now a.raw a.p a.out.now a.at c.in-RhoLb.is c.put_flagged-in-RhoLb.ensures
+    of_rho_lb c.requires.raw_laid a.site.now.term_index.now a.site.now.term_coefficient.now a.raw a.p a.out.now a.at c.in-RhoLb.is c.put_flagged-in-RhoLb.ensures
 
 pub returns-in-MuUb : goal.returns-in-MuUb
 returns-in-MuUb c = let a = c.args in
-    of_mu_ub c.requires.raw_laid a.term_index.now a.term_coefficient.now a.raw a.p a.out.now a.at c.in-MuUb.is c.put_sheds-in-MuUb.ensures
+    of_mu_ub c.requires.raw_laid a.site.now.term_index.now a.site.now.term_coefficient.now a.raw a.p a.out.now a.at c.in-MuUb.is c.put_sheds-in-MuUb.ensures
 
 pub returns-in-MuLb : goal.returns-in-MuLb
 returns-in-MuLb c = let a = c.args in
-    of_mu_lb c.requires.raw_laid a.term_index.now a.term_coefficient.now a.raw a.p a.out.now a.at c.in-MuLb.is c.put_lower.ensures
+    of_mu_lb c.requires.raw_laid a.site.now.term_index.now a.site.now.term_coefficient.now a.raw a.p a.out.now a.at c.in-MuLb.is c.put_lower.ensures
 
 pub returns-in-GammaUb : goal.returns-in-GammaUb
 returns-in-GammaUb c = let a = c.args in
-    of_gamma_ub c.requires.raw_laid a.term_index.now a.term_coefficient.now a.raw a.p a.out.now a.at c.in-GammaUb.is c.put_flagged-in-GammaUb.ensures
+    of_gamma_ub c.requires.raw_laid a.site.now.term_index.now a.site.now.term_coefficient.now a.raw a.p a.out.now a.at c.in-GammaUb.is c.put_flagged-in-GammaUb.ensures
 
 pub returns-in-GammaLb : goal.returns-in-GammaLb
 returns-in-GammaLb c = let a = c.args in
-    of_gamma_lb c.requires.raw_laid a.term_index.now a.term_coefficient.now a.raw a.p a.out.now a.at c.in-GammaLb.is c.put_flagged-in-GammaLb.ensures
+    of_gamma_lb c.requires.raw_laid a.site.now.term_index.now a.site.now.term_coefficient.now a.raw a.p a.out.now a.at c.in-GammaLb.is c.put_flagged-in-GammaLb.ensures
 
 pub returns-in-Epigraph : goal.returns-in-Epigraph
 returns-in-Epigraph c = let a = c.args in
-    of_epigraph c.requires.raw_laid a.term_index.now a.term_coefficient.now a.raw a.p a.out.now a.at c.in-Epigraph.is c.put_block-in-Epigraph.ensures
+    of_epigraph c.requires.raw_laid a.site.now.term_index.now a.site.now.term_coefficient.now a.raw a.p a.out.now a.at c.in-Epigraph.is c.put_block-in-Epigraph.ensures
 
 pub returns-in-SegmentDual : goal.returns-in-SegmentDual
 returns-in-SegmentDual c = let a = c.args in
-    of_segment_dual c.requires.raw_laid a.term_index.now a.term_coefficient.now a.raw a.p a.out.now a.at c.in-SegmentDual.is c.put_block-in-SegmentDual.ensures
+    of_segment_dual c.requires.raw_laid a.site.now.term_index.now a.site.now.term_coefficient.now a.raw a.p a.out.now a.at c.in-SegmentDual.is c.put_block-in-SegmentDual.ensures
 
 pub returns-in-LinearDual : goal.returns-in-LinearDual
 returns-in-LinearDual c = let a = c.args in
-    of_linear_dual c.requires.raw_laid a.term_index.now a.term_coefficient.now a.raw a.p a.out.now a.at c.in-LinearDual.is c.put_duals.ensures
+    of_linear_dual c.requires.raw_laid a.site.now.term_index.now a.site.now.term_coefficient.now a.raw a.p a.out.now a.at c.in-LinearDual.is c.put_duals.ensures
 
 pub returns-in-LinearValue : goal.returns-in-LinearValue
 returns-in-LinearValue c = let a = c.args in
-    of_linear_value c.requires.raw_laid a.term_index.now a.term_coefficient.now a.raw a.p a.out.now a.at c.in-LinearValue.is c.put_values.ensures
+    of_linear_value c.requires.raw_laid a.site.now.term_index.now a.site.now.term_coefficient.now a.raw a.p a.out.now a.at c.in-LinearValue.is c.put_values.ensures
 
 pub returns-in-Objective : goal.returns-in-Objective
 returns-in-Objective c = let a = c.args in
-    of_objective c.requires.raw_laid a.term_index.now a.term_coefficient.now a.raw a.p a.out.now a.at c.in-Objective.is c.objective_of.ensures refl
+    of_objective c.requires.raw_laid a.site.now.term_index.now a.site.now.term_coefficient.now a.raw a.p a.out.now a.at c.in-Objective.is c.objective_of.ensures refl

@@ -7,7 +7,7 @@ use Rattle.opf_readback.specs.Walks.{picked_at}
 use Rattle.opf_readback.proofs.put_flagged.Given as goal
 
 abbrev pub invariant-loop-i : goal.invariant-loop-i
-invariant-loop-i l = Stored (picked_at (flagged l.c l.wiring l.part) l.from l.start) l.at l.i l.initial.out l.out × (l.i ≤ l.count) × (l.k ≡ active_rank (flagged l.c l.wiring l.part) l.i) × (l.k ≤ l.i)
+invariant-loop-i l = Stored (picked_at (flagged l.plan.counts l.plan.wiring.now l.part) l.from l.start) l.at l.i l.initial.out l.out × (l.i ≤ l.count) × (l.k ≡ active_rank (flagged l.plan.counts l.plan.wiring.now l.part) l.i) × (l.k ≤ l.i)
 
 abbrev pub decreases-loop-i : goal.decreases-loop-i
 decreases-loop-i l = l.count - l.i

@@ -8,18 +8,18 @@ use Rattle.opf_layout.proofs.Counting.{rank_none, rank_more}
 use Rattle.opf_readback.proofs.Reading.{picked_room, lower}
 use Rattle.opf_readback.proofs.put_lower.Goals as goal
 
-pub lower_of-requires-clause-i_lt_buses : goal.lower_of-requires-clause-i_lt_buses
-lower_of-requires-clause-i_lt_buses c = let a = c.args in
+pub lower_of-requires : goal.lower_of-requires
+lower_of-requires c = let a = c.args in
     let l = c.loop-i in (
       omega arith,
       omega arith,
-      picked_room (sheds a.c a.wiring.now a.readings.now) l.i a.c.buses a.start (length a.z.now) c.sheds_at-on.ensures l.invariant.3 (omega arith) c.requires.buses_in_bounds_2.0,
+      picked_room (sheds a.plan.now.counts a.plan.now.wiring.now a.plan.now.readings.now) l.i a.plan.now.counts.buses a.start (length a.z.now) c.sheds_at-on.ensures l.invariant.3 (omega arith) c.requires.buses_in_bounds_2.0,
     )
 
 pub loop-i-preserved : goal.loop-i-preserved
 loop-i-preserved c = let l = c.loop-i in
     let a = c.args in (
-      more _ l.invariant.0 (lower a.c a.wiring.now a.readings.now a.z.now a.balance a.start l.i c.lower_of.ensures c.sheds_at-on.ensures l.invariant.3),
+      more _ l.invariant.0 (lower a.plan.now.counts a.plan.now.wiring.now a.plan.now.readings.now a.z.now a.balance a.start l.i c.lower_of.ensures c.sheds_at-on.ensures l.invariant.3),
       omega arith,
       l.invariant.2,
       rank_more _ l.i l.invariant.3 c.one_if-k.ensures.0 c.sheds_at-on.ensures,

@@ -22,20 +22,20 @@ put_entry-requires-clause-p_value c = let a = c.args in
     let l = c.loop-e in
     let q = c.requires.p_value in
     let t = c.loop-e-test.true in
-    let y = entry_small a.c a.p l.e-index t l.invariant.1 c.requires.placed.1.few (pieces_few a.c a.wiring.now a.readings.now a.p c.requires.placed.1 q.0) in
-    (q.0, le_trans (entry_inside a.c a.p l.e-index t l.invariant.1) (le_trans q.1 (le_of_eq (sym l.invariant.0.kept))), y.0)
+    let y = entry_small a.site.now.grid.plan.counts a.p l.e-index t l.invariant.1 c.requires.placed.1.few (pieces_few a.site.now.grid.plan.counts a.site.now.grid.plan.wiring.now a.site.now.grid.plan.readings.now a.p c.requires.placed.1 q.0) in
+    (q.0, le_trans (entry_inside a.site.now.grid.plan.counts a.p l.e-index t l.invariant.1) (le_trans q.1 (le_of_eq (sym l.invariant.0.kept))), y.0)
 
 pub overflow_add-at : goal.overflow_add-at
 overflow_add-at c = let a = c.args in
     let l = c.loop-e in
-    rw c.entry_size-at.ensures (entry_small a.c a.p l.e-index c.loop-e-test.true l.invariant.1 c.requires.placed.1.few (pieces_few a.c a.wiring.now a.readings.now a.p c.requires.placed.1 c.requires.p_value.0)).1
+    rw c.entry_size-at.ensures (entry_small a.site.now.grid.plan.counts a.p l.e-index c.loop-e-test.true l.invariant.1 c.requires.placed.1.few (pieces_few a.site.now.grid.plan.counts a.site.now.grid.plan.wiring.now a.site.now.grid.plan.readings.now a.p c.requires.placed.1 c.requires.p_value.0)).1
 
 pub loop-e-preserved : goal.loop-e-preserved
 loop-e-preserved c = let a = c.args in
     let l = c.loop-e in
     let y = c.entry_size-at.ensures in
-    let n = entry_long a.c a.wiring.now a.readings.now a.term_index.now a.term_coefficient.now a.x.now a.z.now a.raw a.p l.e-index in
-    (run_front _ l.invariant.0 (n ∙ sym y) c.put_entry.ensures, entry_next a.c a.p l.e-index c.loop-e-test.true l.invariant.1 y)
+    let n = entry_long a.site.now.grid.plan.counts a.site.now.grid.plan.wiring.now a.site.now.grid.plan.readings.now a.site.now.term_index.now a.site.now.term_coefficient.now a.x.now a.z.now a.raw a.p l.e-index in
+    (run_front _ l.invariant.0 (n ∙ sym y) c.put_entry.ensures, entry_next a.site.now.grid.plan.counts a.p l.e-index c.loop-e-test.true l.invariant.1 y)
 
 pub returns-clause-out_after : goal.returns-clause-out_after
 returns-clause-out_after c = let a = c.args in
@@ -43,13 +43,13 @@ returns-clause-out_after c = let a = c.args in
     let q = c.requires.p_value in
     let e : l.e-index ≡ 18 = omega arith in
     let r = rw e at l.invariant.0 in
-    let d = r.long ∙ l.invariant.1 ∙ ap (λ (k : ℕ). start (sizes a.c a.p) k) e in
-    let w = sheet_is a.c a.wiring.now a.readings.now a.term_index.now a.term_coefficient.now a.x.now a.z.now a.raw a.p q.0 in r.is ∙ fronted _ _ (le_trans (le_of_eq d) q.1) ∙ ap (λ (f : List Float). front f a.out.now) w
+    let d = r.long ∙ l.invariant.1 ∙ ap (λ (k : ℕ). start (sizes a.site.now.grid.plan.counts a.p) k) e in
+    let w = sheet_is a.site.now.grid.plan.counts a.site.now.grid.plan.wiring.now a.site.now.grid.plan.readings.now a.site.now.term_index.now a.site.now.term_coefficient.now a.x.now a.z.now a.raw a.p q.0 in r.is ∙ fronted _ _ (le_trans (le_of_eq d) q.1) ∙ ap (λ (f : List Float). front f a.out.now) w
 
 pub returns-clause-raw_len : goal.returns-clause-raw_len
 returns-clause-raw_len c = let a = c.args in
     let l = c.loop-e in
     let e : l.e-index ≡ 18 = omega arith in
     let r = rw e at l.invariant.0 in
-    let d = r.long ∙ l.invariant.1 ∙ ap (λ (k : ℕ). start (sizes a.c a.p) k) e in
-    let w = sheet_is a.c a.wiring.now a.readings.now a.term_index.now a.term_coefficient.now a.x.now a.z.now a.raw a.p c.requires.p_value.0 in ap (λ (f : List Float). length f) (sym w) ∙ d
+    let d = r.long ∙ l.invariant.1 ∙ ap (λ (k : ℕ). start (sizes a.site.now.grid.plan.counts a.p) k) e in
+    let w = sheet_is a.site.now.grid.plan.counts a.site.now.grid.plan.wiring.now a.site.now.grid.plan.readings.now a.site.now.term_index.now a.site.now.term_coefficient.now a.x.now a.z.now a.raw a.p c.requires.p_value.0 in ap (λ (f : List Float). length f) (sym w) ∙ d

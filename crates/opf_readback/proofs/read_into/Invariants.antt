@@ -7,4 +7,4 @@ use Rattle.opf_readback.proofs.Entries.{entry_words}
 use Rattle.opf_readback.proofs.read_into.Given as goal
 
 abbrev pub invariant-loop-e : goal.invariant-loop-e
-invariant-loop-e l = Runs (entry_words l.c l.wiring l.readings l.term_index l.term_coefficient l.x l.z l.raw l.p) 0 l.e-index l.at l.initial.out l.out × (l.at ≡ start (sizes l.c l.p) l.e-index)
+invariant-loop-e l = Runs (entry_words l.site.grid.plan.counts l.site.grid.plan.wiring.now l.site.grid.plan.readings.now l.site.term_index.now l.site.term_coefficient.now l.x l.z l.raw l.p) 0 l.e-index l.at l.initial.out l.out × (l.at ≡ start (sizes l.site.grid.plan.counts l.p) l.e-index)

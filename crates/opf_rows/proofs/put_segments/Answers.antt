@@ -9,12 +9,12 @@ use Rattle.opf_rows.proofs.put_segments.Goals as goal
 
 pub loop-t-init : goal.loop-t-init
 loop-t-init c = let a = c.args in
-    (puts_begin (row_in a.lay) (column_in a.lay) (reading a.c a.readings.now) blank _, omega arith, omega arith)
+    (puts_begin (row_in a.opf.now.layout) (column_in a.opf.now.layout) (reading a.opf.now.grid.plan.counts a.opf.now.grid.plan.readings.now) blank _, omega arith, omega arith)
 
 pub loop-t-preserved : goal.loop-t-preserved
 loop-t-preserved c = let a = c.args in
     let l = c.loop-t in (
-      puts_more (row_in a.lay) (column_in a.lay) (reading a.c a.readings.now) blank (segment_of a.j a.g a.start) l.t l.invariant.0 (segment_put a.lay a.c a.wiring.now a.readings.now a.j a.g a.start l.t c.reading-slope.ensures c.put_cells-k.ensures.puts),
-      omega (arith, c.put_cells-k.ensures.most, l.invariant.1),
+      puts_more (row_in a.opf.now.layout) (column_in a.opf.now.layout) (reading a.opf.now.grid.plan.counts a.opf.now.grid.plan.readings.now) blank (segment_of a.j a.g a.start) l.t l.invariant.0 (segment_put a.opf.now.layout a.opf.now.grid.plan.counts a.opf.now.grid.plan.wiring.now a.opf.now.grid.plan.readings.now a.j a.g a.start l.t c.reading-slope.ensures c.put_cells.ensures.puts),
+      omega (arith, c.put_cells.ensures.most, l.invariant.1),
       omega (arith, c.loop-t-test),
     )

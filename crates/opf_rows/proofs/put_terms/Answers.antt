@@ -10,7 +10,7 @@ loop-t-init c = let a = c.args in
 pub loop-t-preserved : goal.loop-t-preserved
 loop-t-preserved c = let a = c.args in
     let l = c.loop-t in (
-      terms_more a.lay a.term_index.now a.term_coefficient.now a.b a.row a.sign a.col a.start l.t c.wide-j.ensures.0 l.invariant.0 c.put_cell-k.ensures.puts,
-      omega (arith, c.put_cell-k.ensures.most, l.invariant.1),
+      terms_more a.lay a.term_index.now a.term_coefficient.now a.b a.row a.sign a.col a.start l.t c.wide-j.ensures.0 l.invariant.0 c.put_cell.ensures.puts,
+      omega (arith, c.put_cell.ensures.most, l.invariant.1),
       omega (arith, c.loop-t-test),
     )

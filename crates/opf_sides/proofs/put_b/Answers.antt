@@ -1,4 +1,4 @@
--- `opf_sides::put_b` meets its contract: the balances, then a block more each turn. Assumes nothing.
+-- `opf_sides::put_b` meets its contract: the balances, then a block more each turn, and in it an element more. Assumes nothing.
 use Prim.Native.Nat.{ℕ, suc, ◌+◌, ◌≤◌}
 use mathlib.Core.Path.{◌≡◌, refl, sym, ap, ◌∙◌}
 use mathlib.Core.List.{List, ◌++◌}
@@ -14,7 +14,7 @@ use Rattle.sens_snap.proofs.Stores.{fronted}
 use Rattle.opf_layout.specs.declared.OpfRow.TheVariants.{Balance}
 use Rattle.opf_layout.specs.Layout.{rows}
 use Rattle.opf_layout.proofs.Blocks.{row_rank_of}
-use Rattle.opf_assembly.specs.Assembly.{row_words, b_sheet}
+use Rattle.opf_assembly.specs.Assembly.{right_sides, row_elements, row_words, b_sheet}
 use Rattle.opf_sides.specs.Walks.{Stores}
 use Rattle.opf_sides.proofs.Storing.{then, no_turn, turn, turn_room, room_next, made_turns, from_begin, whole}
 use Rattle.opf_sides.proofs.put_b.Goals as goal
@@ -58,26 +58,41 @@ later_room : (c : Counts) (w : List ℕ) (r : List Float) {old new : List Float}
     → c.buses + length (each 13 (later c w r)) ≤ length new
 later_room c w r {old} p h = room_next (each 13 (later c w r)) p (from_begin (each 1 (block c w r) ++ each 13 (later c w r)) (rw (all_blocks c w r) at h))
 
-pub fixed_into-requires-clause-buses_in_bounds : goal.fixed_into-requires-clause-buses_in_bounds
-fixed_into-requires-clause-buses_in_bounds c = let a = c.args in first_room a.c a.wiring.now a.readings.now _ c.requires.readings_in_bounds
+pub fixed_into-requires : goal.fixed_into-requires
+fixed_into-requires c = let a = c.args in first_room a.grid.now.plan.counts a.grid.now.plan.wiring.now a.grid.now.plan.readings.now _ c.requires
 
 pub loop-block-init : goal.loop-block-init
 loop-block-init c = no_turn _ _ _
 
-pub put_rows-at-requires-clause-b_in_bounds : goal.put_rows-at-requires-clause-b_in_bounds
-put_rows-at-requires-clause-b_in_bounds c = let a = c.args in
-    let l = c.loop-block in
+pub loop-i-init : goal.loop-i-init
+loop-i-init c = no_turn _ _ _
+
+pub sides_of-requires : goal.sides_of-requires
+sides_of-requires c = let o = c.loop-block in
+    (omega (arith, c.loop-i-test.true, c.row_elements-i-end.ensures), omega (arith, row_rank_of (suc o.block-index) (omega (arith, c.loop-block-test.true))))
+
+pub put_sides-at-requires : goal.put_sides-at-requires
+put_sides-at-requires c = let a = c.args in
+    let o = c.loop-block in
+    let l = c.loop-i in
     let t = c.loop-block-test.true in
-    let g = later_room a.c a.wiring.now a.readings.now (first_block a.c a.wiring.now a.readings.now c.fixed_into.ensures.out_after c.fixed_into.ensures.out_len_unchanged (first_room a.c a.wiring.now a.readings.now _ c.requires.readings_in_bounds)) c.requires.readings_in_bounds in
-    (turn_room (later a.c a.wiring.now a.readings.now) l.block-index 13 a.c.buses (length l.b) t (rw l.invariant.kept g) l.invariant.next, omega (arith, row_rank_of (suc l.block-index) (omega (arith, t))))
+    let b = get_or rows (suc o.block-index) Balance in
+    let g = later_room a.grid.now.plan.counts a.grid.now.plan.wiring.now a.grid.now.plan.readings.now (first_block a.grid.now.plan.counts a.grid.now.plan.wiring.now a.grid.now.plan.readings.now c.fixed_into.ensures.out_after c.fixed_into.ensures.out_len_unchanged (first_room a.grid.now.plan.counts a.grid.now.plan.wiring.now a.grid.now.plan.readings.now _ c.requires)) c.requires in
+    let h = turn_room (later a.grid.now.plan.counts a.grid.now.plan.wiring.now a.grid.now.plan.readings.now) o.block-index 13 a.grid.now.plan.counts.buses (length o.b) t (rw o.invariant.kept g) o.invariant.next in
+    rw c.sides_of.ensures (turn_room (right_sides a.grid.now.plan.counts a.grid.now.plan.wiring.now a.grid.now.plan.readings.now b) l.i (row_elements a.grid.now.plan.counts b) o.at (length l.b) (omega (arith, c.loop-i-test.true, c.row_elements-i-end.ensures)) (rw l.invariant.kept h) l.invariant.next)
+
+pub loop-i-preserved : goal.loop-i-preserved
+loop-i-preserved c = let q = rw c.sides_of.ensures at c.put_sides-at.ensures in
+    turn _ c.loop-i.i c.loop-i.invariant q
 
 pub loop-block-preserved : goal.loop-block-preserved
-loop-block-preserved c = turn _ c.loop-block.block-index c.loop-block.invariant c.put_rows-at.ensures
+loop-block-preserved c = let e : c.loop-i.i ≡ row_elements c.args.grid.now.plan.counts (get_or rows (suc c.loop-block.block-index) Balance) = omega (arith, c.row_elements-i-end.ensures) in
+    turn _ c.loop-block.block-index c.loop-block.invariant (rw e at c.loop-i.invariant)
 
 pub returns : goal.returns
 returns c = let a = c.args in
     let l = c.loop-block in
     let e : l.block-index ≡ 13 = omega arith in
-    let p = first_block a.c a.wiring.now a.readings.now c.fixed_into.ensures.out_after c.fixed_into.ensures.out_len_unchanged (first_room a.c a.wiring.now a.readings.now _ c.requires.readings_in_bounds) in
+    let p = first_block a.grid.now.plan.counts a.grid.now.plan.wiring.now a.grid.now.plan.readings.now c.fixed_into.ensures.out_after c.fixed_into.ensures.out_len_unchanged (first_room a.grid.now.plan.counts a.grid.now.plan.wiring.now a.grid.now.plan.readings.now _ c.requires) in
     let q = then p (rw e at l.invariant) in
-    whole (rw (← (all_blocks a.c a.wiring.now a.readings.now)) at q) c.requires.readings_in_bounds
+    whole (rw (← (all_blocks a.grid.now.plan.counts a.grid.now.plan.wiring.now a.grid.now.plan.readings.now)) at q) c.requires

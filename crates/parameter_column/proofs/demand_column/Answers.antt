@@ -9,4 +9,4 @@ use Rattle.parameter_column.proofs.demand_column.Goals as goal
 
 pub returns : goal.returns
 unfolding valued whole of_int of_bits
-returns c = let a = c.args in λ ti tc. then (start_in a.idx) c.touch.ensures.touched (rw (c.mu_ub_of.ensures, c.cap_rate.ensures (solved a.c a.idx.pieces a.solution.now)) at c.touch-2.ensures.touched)
+returns c = let a = c.args in λ ti tc. then (start_in a.idx) c.touch.ensures.touched (rw (c.mu_ub_of.ensures, c.cap_rate.ensures (solved a.point.now.grid.plan.counts a.point.now.pieces a.point.now.sheet.now)) at c.touch-2.ensures.touched)

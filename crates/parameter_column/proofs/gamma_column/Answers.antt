@@ -7,4 +7,7 @@ use Rattle.parameter_column.proofs.gamma_column.Goals as goal
 
 pub returns : goal.returns
 unfolding valued
-returns c = let a = c.args in let R = reading a.c a.readings.now in then (start_in a.idx) (rw (c.gamma_lb_of.ensures, c.reading.ensures, c.angle-dth.ensures R) at c.touch.ensures.touched) (rw (c.gamma_ub_of.ensures, c.reading-2.ensures, c.angle-dth.ensures R) at c.touch-2.ensures.touched)
+returns c = let a = c.args in
+    let g = a.point.now.grid.plan in
+    let R = reading g.counts g.readings.now in
+    then (start_in a.idx) (rw (c.gamma_lb_of.ensures, c.reading.ensures, c.angle-dth.ensures R) at c.touch.ensures.touched) (rw (c.gamma_ub_of.ensures, c.reading-2.ensures, c.angle-dth.ensures R) at c.touch-2.ensures.touched)

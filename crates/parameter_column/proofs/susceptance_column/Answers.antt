@@ -5,4 +5,7 @@ use Rattle.parameter_column.proofs.susceptance_column.Goals as goal
 
 pub returns : goal.returns
 unfolding valued
-returns c = let a = c.args in let R = reading a.c a.readings.now in λ ti tc q. rw (c.reading-sw.ensures, c.reading-shift.ensures, c.price_across-dnu.ensures R, c.angle-dth.ensures R, q) at c.weight_column.ensures
+returns c = let a = c.args in
+    let g = a.point.now.grid.plan in
+    let R = reading g.counts g.readings.now in
+    λ ti tc q. rw (c.reading-sw.ensures, c.reading-shift.ensures, c.across-dnu.ensures, c.angle-dth.ensures R, q) at c.weight_column.ensures

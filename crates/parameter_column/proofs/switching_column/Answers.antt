@@ -7,4 +7,7 @@ use Rattle.parameter_column.proofs.switching_column.Goals as goal
 
 pub returns : goal.returns
 unfolding valued
-returns c = let a = c.args in let R = reading a.c a.readings.now in λ ti tc q. then (start_in a.idx) (rw (c.reading-b.ensures, c.reading-offset.ensures, c.gamma_across-g.ensures, c.price_across-dnu.ensures R, c.angle-dth.ensures R, q) at c.weight_column.ensures) c.gamma_column.ensures
+returns c = let a = c.args in
+    let g = a.point.now.grid.plan in
+    let R = reading g.counts g.readings.now in
+    λ ti tc q. then (start_in a.idx) (rw (c.reading-b.ensures, c.reading-offset.ensures, c.gamma_across-g.ensures, c.across-dnu.ensures, c.angle-dth.ensures R, q) at c.weight_column.ensures) c.gamma_column.ensures

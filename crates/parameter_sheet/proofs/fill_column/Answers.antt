@@ -9,5 +9,6 @@ pub returns-clause-column_after : goal.returns-clause-column_after
 unfolding whole of_int of_bits
 returns-clause-column_after c = let a = c.args in
     let s = a.site in
+    let g = s.grid.plan in
     let x = c.requires.indexes in
-    column_is s.counts s.wiring.now s.term_index.now s.term_coefficient.now s.readings.now a.solution.now a.idx a.k a.i a.column.now x.indexed x.linear (c.requires.i_bound.1 ∙ x.indexed.dim_is) (c.fill.ensures.after (λ y e. e)) c.mark_column.ensures
+    column_is g.counts g.wiring.now s.term_index.now s.term_coefficient.now g.readings.now a.solution.now a.idx a.k a.i a.column.now x.indexed x.linear (c.requires.i_bound.1 ∙ x.indexed.dim_is) (c.fill.ensures.after (λ y e. e)) c.mark_column.ensures

@@ -15,23 +15,24 @@ use Rattle.parameter_sheet.proofs.Filling.{column_fits, part_back, column_long}
 use Rattle.parameter_sheet.proofs.fill_sheet.Goals as goal
 
 pub loop-element-init : goal.loop-element-init
-loop-element-init c = (no_run _ _ _, sym (zero-mul _))
+loop-element-init c = (sym (zero-mul _), no_run _ _ _)
 
 pub loop-element-preserved : goal.loop-element-preserved
 loop-element-preserved c = let a = c.args in
     let s = a.site in
+    let p = s.grid.plan in
     let l = c.loop-element in
-    let f : l.at + a.idx.dim ≤ length l.sheet = rw (l.invariant.1, l.invariant.0.kept) (column_fits a.idx.dim l.element-index (length a.columns.now) (length a.sheet.now) c.loop-element-test.true c.requires.dim_in_bounds) in
-    let g = column_words s.counts s.wiring.now s.term_index.now s.term_coefficient.now a.idx.pieces s.readings.now a.solution.now a.k (get_or a.columns.now l.element-index 0) in
-    let n = column_long s.counts s.wiring.now s.term_index.now s.term_coefficient.now s.readings.now a.solution.now a.idx a.k (get_or a.columns.now l.element-index 0) c.requires.indexes in
+    let f : l.at + a.idx.dim ≤ length l.sheet = rw (l.invariant.0, l.invariant.1.kept) (column_fits a.idx.dim l.element-index (length a.columns.now) (length a.sheet.now) c.loop-element-test.true c.requires.dim_in_bounds) in
+    let g = column_words p.counts p.wiring.now s.term_index.now s.term_coefficient.now a.idx.pieces p.readings.now a.solution.now a.k (get_or a.columns.now l.element-index 0) in
+    let n = column_long p.counts p.wiring.now s.term_index.now s.term_coefficient.now p.readings.now a.solution.now a.idx a.k (get_or a.columns.now l.element-index 0) c.requires.indexes in
     let e = rw c.wide.ensures.0 at c.fill_column.ensures.column_after in
     let q = ap (λ (y : List Float). put_mid l.at ((l.at + a.idx.dim) - l.at) l.sheet y) e ∙ part_back l.at a.idx.dim l.sheet g n f in
-    (run_front a.idx.dim l.invariant.0 n q, rw (l.invariant.1, add-one) (sym (suc-mul l.element-index a.idx.dim)))
+    (rw (l.invariant.0, add-one) (sym (suc-mul l.element-index a.idx.dim)), run_front a.idx.dim l.invariant.1 n q)
 
 pub returns : goal.returns
 unfolding jacobian
 returns c = let a = c.args in
     let l = c.loop-element in
     let e : l.element-index ≡ length a.columns.now = omega (arith, c.loop-element-test.false) in
-    let r = rw e at l.invariant.0 in
-    r.is ∙ fronted _ _ (le_trans (le_of_eq (r.long ∙ l.invariant.1 ∙ ap (λ (y : ℕ). y * a.idx.dim) e)) c.requires.dim_in_bounds)
+    let r = rw e at l.invariant.1 in
+    r.is ∙ fronted _ _ (le_trans (le_of_eq (r.long ∙ l.invariant.0 ∙ ap (λ (y : ℕ). y * a.idx.dim) e)) c.requires.dim_in_bounds)

@@ -9,4 +9,4 @@ loop-i-init c = (none _ _, omega arith, refl, c.reading-base.ensures)
 
 pub loop-i-preserved : goal.loop-i-preserved
 loop-i-preserved c = let l = c.loop-i in
-    (more _ (omega arith) l.invariant.0 (rw (c.solved_at.ensures, l.invariant.3)), omega arith, l.invariant.2, l.invariant.3)
+    (more _ (omega arith) l.invariant.0 (rw (c.value.ensures, l.invariant.3)), omega arith, l.invariant.2, l.invariant.3)

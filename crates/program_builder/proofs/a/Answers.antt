@@ -5,7 +5,7 @@ use lib.Ieee.{ne, of_bits, of_int}
 use Rattle.std.specs.Prelude.{Some, None}
 use Rattle.std.specs.Bool.{then_some}
 use Rattle.float64.specs.Values.{whole}
-use Rattle.sequence.proofs.Sheets.{put_of}
+use Rattle.sequence.proofs.Sinks.{put_of}
 use Rattle.program_builder.proofs.a.Goals as goal
 
 then_some_cond : {A : Type 0} (b : Bool) (x : A) → then_some b x ≡ cond b (Some x) None

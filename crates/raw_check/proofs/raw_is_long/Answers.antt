@@ -13,8 +13,8 @@ returns-then-not-sizes_hold c = λ e. absurd (apart _ e (failed c.sizes_hold.ens
 pub counts-c-requires : goal.counts-c-requires
 counts-c-requires c = sized_nine _ (held c.sizes_hold.ensures c.if-not-sizes_hold.false)
 
-pub active_of-requires : goal.active_of-requires
-active_of-requires c = let h = held c.sizes_hold.ensures c.if-not-sizes_hold.false in rw c.counts-c.ensures (record { wiring_laid = sized_wiring _ h; readings_laid = sized_readings _ h })
+pub invariant_of-plan : goal.invariant_of-plan
+invariant_of-plan c = let h = held c.sizes_hold.ensures c.if-not-sizes_hold.false in rw c.counts-c.ensures (record { wiring_laid = sized_wiring _ h; readings_laid = sized_readings _ h })
 
 pub returns-then-x-lay : goal.returns-then-x-lay
 returns-then-x-lay c = λ e. rows_left _ _ _ c.counts-c.ensures c.active_of.ensures.0 c.dc-lay.ensures c.if-x-lay.true

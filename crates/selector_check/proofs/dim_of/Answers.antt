@@ -11,8 +11,8 @@ returns-then-not-sizes_hold c = λ e. absurd (apart _ e (failed c.sizes_hold.ens
 pub counts-requires : goal.counts-requires
 counts-requires c = sized_nine _ (held c.sizes_hold.ensures c.if-not-sizes_hold.false)
 
-pub dim_at-requires : goal.dim_at-requires
-dim_at-requires c = let h = held c.sizes_hold.ensures c.if-not-sizes_hold.false in rw c.counts.ensures (record { wiring_laid = sized_wiring _ h; readings_laid = sized_readings _ h })
+pub invariant_of-plan : goal.invariant_of-plan
+invariant_of-plan c = let h = held c.sizes_hold.ensures c.if-not-sizes_hold.false in rw c.counts.ensures (record { wiring_laid = sized_wiring _ h; readings_laid = sized_readings _ h })
 
 pub returns : goal.returns
 returns c = λ e. c.dim_at.ensures ∙ rw c.counts.ensures

@@ -11,8 +11,8 @@ pub returns-in_err-site : goal.returns-in_err-site
 returns-in_err-site c = let e : c.from_residual.result ≡ Err c.in_err-site.field-0.0 = grind arith in
     rw e (matrix_refused _ _ _ _ _ _ c.in_err-site.ensures.number _ (refused c.in_err-site.field-0.0))
 
-pub lay_kkt-requires-clause-sheet_laid : goal.lay_kkt-requires-clause-sheet_laid
-lay_kkt-requires-clause-sheet_laid c = let a = c.in_ok-site.ensures in site_sheet a.accepted a.solved refl
+pub lay_kkt-requires : goal.lay_kkt-requires
+lay_kkt-requires c = let a = c.in_ok-site.ensures in site_sheet a.accepted a.solved refl
 
 pub returns : goal.returns
 returns c = let a = c.in_ok-site.ensures in

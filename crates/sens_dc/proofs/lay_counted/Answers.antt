@@ -1,16 +1,16 @@
 -- `sens_dc::lay_counted` meets its contract: a counting pass, then a writing pass. Assumes nothing.
+use mathlib.Core.Path.{sym}
 use native.Mathlib.Omega.{arith}
-use Rattle.sequence.proofs.Sheets.{lays_short, lays_twice, room_after}
+use Rattle.sequence.proofs.Sheets.{lays_short, lays_twice}
 use Rattle.sens_dc.proofs.lay_counted.Goals as goal
 
-pub put_kkt-count-requires-clause-room : goal.put_kkt-count-requires-clause-room
-put_kkt-count-requires-clause-room c = record { in_rows = omega arith; in_cols = omega arith; in_values = omega arith; far = omega arith }
-
 pub returns-then-cap-count : goal.returns-then-cap-count
-returns-then-cap-count c = lays_short c.put_kkt-count.ensures.puts c.requires.cap_value c.if-cap-count.true
-
-pub put_kkt-done-requires-clause-room : goal.put_kkt-done-requires-clause-room
-put_kkt-done-requires-clause-room c = room_after c.put_kkt-count.ensures.puts c.requires.cap_value c.if-cap-count.false
+returns-then-cap-count c = let q = c.put_kkt.ensures.puts in
+    rw (c.rows-1.given.1.1 (sym q.same_rows), c.cols-1.given.1.1 (sym q.same_cols), c.values-1.given.1.1 (sym q.same_values))
+    (lays_short q.puts c.requires.cap_value c.if-cap-count.true)
 
 pub returns : goal.returns
-returns c = lays_twice c.put_kkt-count.ensures.puts c.put_kkt-done.ensures.puts c.requires.cap_value c.if-cap-count.false
+returns c = let p = c.put_kkt.ensures.puts in
+    let q = c.put_kkt-2.ensures.puts in
+    rw (c.rows-2-1.given.1.1 (sym q.same_rows), c.cols-2-1.given.1.1 (sym q.same_cols), c.values-2-1.given.1.1 (sym q.same_values))
+    (lays_twice (rw (← c.rows-1.given.1.1 (sym p.same_rows), ← c.cols-1.given.1.1 (sym p.same_cols), ← c.values-1.given.1.1 (sym p.same_values)) at p.puts) q.puts c.requires.cap_value c.if-cap-count.false)

@@ -3,4 +3,4 @@ use Rattle.kkt_index.proofs.Starts.{narrow}
 use Rattle.sens_operands.proofs.start_of.Goals as goal
 
 pub start-requires : goal.start-requires
-start-requires c = narrow c.new.ensures c.args.site.wired.laid.few c.piece_count-p.ensures.1 c.linear_rows-l.ensures.1
+start-requires c = narrow c.new.ensures c.args.site.grid.wired.laid.few c.piece_count-p.ensures.1 c.linear_rows-l.ensures.1

@@ -18,7 +18,7 @@ pub returns-then-word-ne0 : goal.returns-then-word-ne0
 unfolding some_piecewise
 returns-then-word-ne0 c = let a = c.args in
     let l = c.loop-column in
-    sym (some_holds (λ i. not (eqb (segments_at a.c a.wiring.now (get_or a.columns.now i 0)) 0)) l.column-index (length a.columns.now) c.loop-column-test.true
+    sym (some_holds (λ i. not (eqb (segments_at a.plan.now.counts a.plan.now.wiring.now (get_or a.columns.now i 0)) 0)) l.column-index (length a.columns.now) c.loop-column-test.true
     (rw (ne_eqb _ 0 (rw (c.word.ensures.0, c.wide.ensures.0) at c.if-word-ne0.true))))
 
 pub loop-column-preserved : goal.loop-column-preserved

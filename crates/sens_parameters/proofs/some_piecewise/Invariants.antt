@@ -8,4 +8,4 @@ use Rattle.network.specs.Layout.{segments_at}
 use Rattle.sens_parameters.proofs.some_piecewise.Given as goal
 
 abbrev pub invariant-loop-column : goal.invariant-loop-column
-invariant-loop-column l = some (λ i. not (eqb (segments_at l.c l.wiring (get_or l.columns i 0)) 0)) l.column-index ≡ false
+invariant-loop-column l = some (λ i. not (eqb (segments_at l.plan.counts l.plan.wiring.now (get_or l.columns i 0)) 0)) l.column-index ≡ false

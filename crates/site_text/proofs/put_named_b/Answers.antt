@@ -11,18 +11,18 @@ use Rattle.site_text.proofs.Writing.{told}
 use Rattle.site_text.proofs.Network.{wired_b, narrow_b, cells_b}
 use Rattle.site_text.proofs.put_named_b.Goals as goal
 
-pub index_of-x-requires-clause-wired : goal.index_of-x-requires-clause-wired
-index_of-x-requires-clause-wired c = wired_b c.wiring_b-wiring.ensures c.counts-c.ensures
+pub invariant_of-plan-clause-wiring_laid : goal.invariant_of-plan-clause-wiring_laid
+invariant_of-plan-clause-wiring_laid c = (wired_b c.wiring_b-wiring.ensures c.counts-c.ensures).laid
 
-pub put_named-requires-clause-wired : goal.put_named-requires-clause-wired
-put_named-requires-clause-wired c = wired_b c.wiring_b-wiring.ensures c.counts-c.ensures
+pub invariant_of-grid : goal.invariant_of-grid
+invariant_of-grid c = record { wired = wired_b c.wiring_b-wiring.ensures c.counts-c.ensures }
 
-pub put_named-requires-clause-narrow : goal.put_named-requires-clause-narrow
-put_named-requires-clause-narrow c = narrow_b c.wiring_b-wiring.ensures c.counts-c.ensures c.readings_b-readings.ensures c.index_of-x.ensures
+pub invariant_of-places : goal.invariant_of-places
+invariant_of-places c = record { wired = wired_b c.wiring_b-wiring.ensures c.counts-c.ensures; narrow = narrow_b c.wiring_b-wiring.ensures c.counts-c.ensures c.readings_b-readings.ensures c.index_of.ensures }
 
 pub returns-clause-wrote : goal.returns-clause-wrote
 returns-clause-wrote c = let a = c.args in
     let e = c.field_of-f.ensures ∙ ap field_of c.wide.ensures.0 in told
     (ap (λ (cells : List Cell). joined triplet_line (triplets_in cells (triplets (take a.count a.rows.now) (take a.count a.cols.now) (take a.count a.values.now))))
-    (cells_b c.wiring_b-wiring.ensures c.counts-c.ensures c.readings_b-readings.ensures c.index_of-x.ensures (a.head / 0x1000_0000) e c.wide-i.ensures.0))
+    (cells_b c.wiring_b-wiring.ensures c.counts-c.ensures c.readings_b-readings.ensures c.index_of.ensures (a.head / 0x1000_0000) e c.wide-i.ensures.0))
     c.put_named.ensures.wrote

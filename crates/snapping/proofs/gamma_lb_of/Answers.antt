@@ -3,4 +3,4 @@ use Rattle.float64.specs.Values.{nought}
 use Rattle.snapping.proofs.gamma_lb_of.Goals as goal
 
 pub returns : goal.returns
-returns c = rw (c.limit_value.ensures, c.solved_at.ensures, c.reading.ensures, c.angle.ensures (λ f i. nought))
+returns c = rw (c.limit_value.ensures, c.value.ensures, c.reading.ensures, c.angle.ensures (λ f i. nought))

@@ -3,4 +3,4 @@ use Rattle.float64.specs.Values.{nought}
 use Rattle.snapping.proofs.gamma_ub_of.Goals as goal
 
 pub returns : goal.returns
-returns c = rw (c.limit_value.ensures, c.solved_at.ensures, c.angle.ensures (λ f i. nought), c.reading.ensures)
+returns c = rw (c.limit_value.ensures, c.value.ensures, c.angle.ensures (λ f i. nought), c.reading.ensures)

@@ -3,15 +3,6 @@ use native.Mathlib.Omega.{arith}
 use Rattle.susceptance.proofs.Incidence.{row_is}
 use Rattle.susceptance.proofs.put_row.Goals as goal
 
-pub make_row-requires-clause-wired : goal.make_row-requires-clause-wired
-make_row-requires-clause-wired c = c.requires.wired
-
-pub make_row-requires-clause-readings_laid : goal.make_row-requires-clause-readings_laid
-make_row-requires-clause-readings_laid c = c.requires.readings_laid
-
-pub make_row-requires-clause-chains : goal.make_row-requires-clause-chains
-make_row-requires-clause-chains c = c.requires.chains
-
 pub make_row-requires-clause-row_room : goal.make_row-requires-clause-row_room
 make_row-requires-clause-row_room c = c.requires.row_room
 
@@ -26,9 +17,6 @@ put_cells-requires-clause-i_bound c = omega (arith, c.requires)
 
 pub put_cells-requires-clause-covers : goal.put_cells-requires-clause-covers
 put_cells-requires-clause-covers c = c.make_row.ensures.covers
-
-pub put_cells-requires-clause-room : goal.put_cells-requires-clause-room
-put_cells-requires-clause-room c = omega (arith, c.requires)
 
 pub returns-clause-puts : goal.returns-clause-puts
 returns-clause-puts c = let e = row_is _ _ _ _ c.make_row.ensures in rw e at c.put_cells.ensures.puts

@@ -1,6 +1,6 @@
 -- `susceptance::put_span` meets its contract: a cell more each turn. Assumes nothing.
 use native.Mathlib.Omega.{arith}
-use Rattle.sequence.proofs.Sheets.{begin, more, done, none, put_of}
+use Rattle.sequence.proofs.Sinks.{begin, more, done, none, put_of}
 use Rattle.susceptance.specs.Incidence.{cell_at, span_at}
 use Rattle.susceptance.proofs.Incidence.{span_none}
 use Rattle.susceptance.proofs.put_span.Goals as goal
@@ -13,7 +13,7 @@ loop-j-init c = (begin _, omega arith, omega arith)
 
 pub loop-j-preserved : goal.loop-j-preserved
 unfolding cell_at
-loop-j-preserved c = (more _ _ c.loop-j.invariant.0 (put_of c.cell.ensures c.put-k.ensures.puts), omega (arith, c, c), omega (arith, c, c))
+loop-j-preserved c = (more _ _ c.loop-j.invariant.0 (put_of c.cell.ensures c.put.ensures.puts), omega (arith, c, c), omega (arith, c, c))
 
 pub returns-clause-puts : goal.returns-clause-puts
 unfolding span_at

@@ -1,23 +1,12 @@
 -- `capi::buses::capi_phase_withdrawal` meets its contract: refused at once, or the call on what was decoded. Assumes nothing.
-use mathlib.Core.Path.{◌∙◌}
-use mathlib.Core.Bool.{Bool}
-use Rattle.words.specs.Words.{doubles_of}
-use Rattle.network.specs.Numbers.{Network}
 use Rattle.model.specs.Calls.{phase_call}
-use Rattle.decoding.specs.Exports.{filled_out}
-use Rattle.decoding.proofs.Answered.{bus_one, unsized, cut_count, cut_cells, told}
+use Rattle.decoding.proofs.Answered.{bus_answer, bus_count, bus_one, unsized}
+use Rattle.decoding.proofs.Filled.{exported}
 use Rattle.capi.proofs.buses.capi_phase_withdrawal.Goals as goal
 
-pub returns-in_default : goal.returns-in_default
-returns-in_default c = rw c.pack.ensures (bus_one _ _ _ _ _ (unsized _ _ c.in_default.ensures.refused))
-
-pub slice_bounds-phase_withdrawal_out-end : goal.slice_bounds-phase_withdrawal_out-end
-slice_bounds-phase_withdrawal_out-end c = cut_count _ _ c.cells_for-n.ensures.below
-
-pub phase_withdrawal_out-requires : goal.phase_withdrawal_out-requires
-phase_withdrawal_out-requires c = cut_cells _ c.cells_for-n.ensures.below c.cells_for-n.ensures
+pub fill_sheet-requires-clause-call : goal.fill_sheet-requires-clause-call
+fill_sheet-requires-clause-call c = record { may = λ l x r. tt; within = λ l x a y r p. bus_count _ _ c.args.sheet.now x.now r p.1 }
 
 pub returns : goal.returns
-returns c = let a = c.args in
-    let h = c.in-Some.ensures.decoded in
-    c.phase_withdrawal_out.ensures ∙ told (λ (b : Bool) (N : Network). filled_out b (phase_call N (doubles_of a.sheet.now)) a.sheet.now) h.0 h.1
+returns c =
+    exported _ phase_call (λ h. bus_one _ _ _ _ _ (unsized _ _ h)) (λ o. o) (λ l x a y r p. bus_answer _ _ c.args.sheet.now x.now r p.1) c.fill_sheet.ensures

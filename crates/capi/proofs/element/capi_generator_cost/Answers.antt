@@ -1,23 +1,25 @@
 -- `capi::element::capi_generator_cost` meets its contract: refused at once, or the call on what was decoded. Assumes nothing.
-use mathlib.Core.Path.{◌∙◌}
-use mathlib.Core.Bool.{Bool}
-use Rattle.words.specs.Words.{doubles_of}
+use Rattle.std.proofs.Common.{rules, ◌≡◌}
+use lib.Ieee.{of_bits, binary64}
+use Rattle.sequence.specs.Answers.{answered}
 use Rattle.network.specs.Numbers.{Network}
+use Rattle.network.specs.Sites.{network_in}
 use Rattle.model.specs.Calls.{generator_cost_call}
-use Rattle.decoding.specs.Exports.{filled_out}
-use Rattle.decoding.proofs.Answered.{element_one, unsized, cut_count, cut_cells, told}
+use Rattle.decoding.proofs.Answered.{element_answer, element_count, element_one, unsized}
+use Rattle.decoding.proofs.Filled.{exported}
 use Rattle.capi.proofs.element.capi_generator_cost.Goals as goal
 
-pub returns-in_default : goal.returns-in_default
-returns-in_default c = rw c.pack.ensures (element_one _ _ _ _ _ _ (doubles_of c.args.sheet.now) _ _ (unsized _ _ c.in_default.ensures.refused))
-
-pub slice_bounds-generator_cost_out-end : goal.slice_bounds-generator_cost_out-end
-slice_bounds-generator_cost_out-end c = cut_count _ _ c.cells_for-n.ensures.below
-
-pub generator_cost_out-requires : goal.generator_cost_out-requires
-generator_cost_out-requires c = cut_cells _ c.cells_for-n.ensures.below c.cells_for-n.ensures
+pub fill_sheet-requires-clause-call : goal.fill_sheet-requires-clause-call
+fill_sheet-requires-clause-call c =
+    record {
+      may = λ l x r. tt;
+      within = λ l x a y r p.
+          let e : answered a y.now ≡ generator_cost_call (network_in l) c.args.generator (of_bits binary64 c.args.power) x.now = search rules in
+          element_count _ _ _ _ _ _ c.args.sheet.now x.now r e;
+    }
 
 pub returns : goal.returns
-returns c = let a = c.args in
-    let h = c.in-Some.ensures.decoded in
-    rw (← c.number.ensures) (c.generator_cost_out.ensures ∙ told (λ (b : Bool) (N : Network). filled_out b (generator_cost_call N a.generator c.number.result (doubles_of a.sheet.now)) a.sheet.now) h.0 h.1)
+returns c =
+    exported _ (λ (N : Network). generator_cost_call N c.args.generator (of_bits binary64 c.args.power)) (λ h. element_one _ _ _ _ _ _ _ _ _ (unsized _ _ h)) (λ o. o)
+    (λ l x a y r p. element_answer _ _ _ _ _ _ c.args.sheet.now x.now r (search rules))
+    c.fill_sheet.ensures

@@ -1,23 +1,24 @@
 -- `capi::element::capi_shed_cap` meets its contract: refused at once, or the call on what was decoded. Assumes nothing.
-use mathlib.Core.Path.{◌∙◌}
-use mathlib.Core.Bool.{Bool}
-use Rattle.words.specs.Words.{doubles_of}
+use Rattle.std.proofs.Common.{rules, ◌≡◌}
+use Rattle.sequence.specs.Answers.{answered}
 use Rattle.network.specs.Numbers.{Network}
+use Rattle.network.specs.Sites.{network_in}
 use Rattle.model.specs.Calls.{shed_cap_call}
-use Rattle.decoding.specs.Exports.{filled_out}
-use Rattle.decoding.proofs.Answered.{element_one, unsized, cut_count, cut_cells, told}
+use Rattle.decoding.proofs.Answered.{element_answer, element_count, element_one, unsized}
+use Rattle.decoding.proofs.Filled.{exported}
 use Rattle.capi.proofs.element.capi_shed_cap.Goals as goal
 
-pub returns-in_default : goal.returns-in_default
-returns-in_default c = rw c.pack.ensures (element_one _ _ _ _ _ _ (doubles_of c.args.sheet.now) _ _ (unsized _ _ c.in_default.ensures.refused))
-
-pub slice_bounds-shed_cap_out-end : goal.slice_bounds-shed_cap_out-end
-slice_bounds-shed_cap_out-end c = cut_count _ _ c.cells_for-n.ensures.below
-
-pub shed_cap_out-requires : goal.shed_cap_out-requires
-shed_cap_out-requires c = cut_cells _ c.cells_for-n.ensures.below c.cells_for-n.ensures
+pub fill_sheet-requires-clause-call : goal.fill_sheet-requires-clause-call
+fill_sheet-requires-clause-call c =
+    record {
+      may = λ l x r. tt;
+      within = λ l x a y r p.
+          let e : answered a y.now ≡ shed_cap_call (network_in l) c.args.bus x.now = search rules in
+          element_count _ _ _ _ _ _ c.args.sheet.now x.now r e;
+    }
 
 pub returns : goal.returns
-returns c = let a = c.args in
-    let h = c.in-Some.ensures.decoded in
-    c.shed_cap_out.ensures ∙ told (λ (b : Bool) (N : Network). filled_out b (shed_cap_call N a.bus (doubles_of a.sheet.now)) a.sheet.now) h.0 h.1
+returns c =
+    exported _ (λ (N : Network). shed_cap_call N c.args.bus) (λ h. element_one _ _ _ _ _ _ _ _ _ (unsized _ _ h)) (λ o. o)
+    (λ l x a y r p. element_answer _ _ _ _ _ _ c.args.sheet.now x.now r (search rules))
+    c.fill_sheet.ensures

@@ -2,8 +2,8 @@
 use Rattle.capi_problem.proofs.Lengths.{sides_are}
 use Rattle.capi_problem.proofs.program.side_lengths.Goals as goal
 
-pub active_of-requires : goal.active_of-requires
-active_of-requires c = rw c.counts-c.ensures (record { wiring_laid = c.requires.wiring_laid; readings_laid = c.requires.readings_laid })
+pub invariant_of-plan : goal.invariant_of-plan
+invariant_of-plan c = rw c.counts-c.ensures (record { wiring_laid = c.requires.wiring_laid; readings_laid = c.requires.readings_laid })
 
 pub returns : goal.returns
 returns c = let a = c.args in

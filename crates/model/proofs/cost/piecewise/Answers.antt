@@ -1,31 +1,24 @@
 -- `model::cost::piecewise` meets its contract. The loop's invariant: the best of the first s segments, from minus infinity on. Assumes nothing.
 use mathlib.Core.Path.{◌≡◌}
-use Prim.Native.Nat.{◌-◌}
 use native.Mathlib.Omega.{arith}
 use lib.Ieee.{div, neg, of_bits}
 use Rattle.sequence.proofs.Lists.{turns_none, turns_more}
-use Rattle.model.specs.Quantities.{segment_value, piecewise}
+use Rattle.model.specs.Quantities.{piecewise}
 use Rattle.model.proofs.Runs.{segments_inside}
 use Rattle.model.proofs.cost.piecewise.Goals as goal
 
-pub word-count-requires-clause-wiring_laid : goal.word-count-requires-clause-wiring_laid
-word-count-requires-clause-wiring_laid c = c.requires.wired.laid
-
-pub word-count-requires-clause-i_bound : goal.word-count-requires-clause-i_bound
-word-count-requires-clause-i_bound c = c.requires.j_lt_generators
+pub word-count-requires : goal.word-count-requires
+word-count-requires c = c.requires
 
 pub loop-s-init : goal.loop-s-init
 unfolding div neg of_bits
 loop-s-init c = (turns_none _ _, omega arith)
 
 pub overflow_add-at : goal.overflow_add-at
-overflow_add-at c = omega (arith, segments_inside c.requires.wired c.args.j c.requires.j_lt_generators, c.word-count.ensures, c.segment_start-at.ensures)
+overflow_add-at c = omega (arith, segments_inside c.args.grid.now.wired c.args.j c.requires, c.word-count.ensures, c.segment_start-at.ensures)
 
-pub segment_value-requires-clause-readings_laid : goal.segment_value-requires-clause-readings_laid
-segment_value-requires-clause-readings_laid c = c.requires.readings_laid
-
-pub segment_value-requires-clause-s_lt_segments : goal.segment_value-requires-clause-s_lt_segments
-segment_value-requires-clause-s_lt_segments c = omega (arith, segments_inside c.requires.wired c.args.j c.requires.j_lt_generators, c.word-count.ensures, c.segment_start-at.ensures)
+pub segment_value-requires : goal.segment_value-requires
+segment_value-requires c = omega (arith, segments_inside c.args.grid.now.wired c.args.j c.requires, c.word-count.ensures, c.segment_start-at.ensures)
 
 pub overflow_step-s : goal.overflow_step-s
 overflow_step-s c = omega (arith, c.word-count.ensures)

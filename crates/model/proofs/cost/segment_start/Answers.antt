@@ -1,6 +1,5 @@
 -- `model::cost::segment_start` meets its contract. The loop's invariant: the first i generators' segments are counted. Assumes nothing.
 use mathlib.Core.Path.{◌≡◌}
-use Prim.Native.Nat.{◌-◌}
 use native.Mathlib.Omega.{arith}
 use Rattle.model.proofs.Runs.{segments_none, segments_more, segments_within, segments_inside}
 use Rattle.model.proofs.cost.segment_start.Goals as goal

@@ -1,6 +1,5 @@
 -- `model::terms::term_start` meets its contract. The loop's invariant: the first i rows' terms are counted. Assumes nothing.
 use mathlib.Core.Path.{◌≡◌}
-use Prim.Native.Nat.{◌-◌}
 use native.Mathlib.Omega.{arith}
 use Rattle.model.proofs.Runs.{terms_none, terms_more, terms_within, terms_inside}
 use Rattle.model.proofs.terms.term_start.Goals as goal

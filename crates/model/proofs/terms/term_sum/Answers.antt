@@ -1,6 +1,6 @@
 -- `model::terms::term_sum` meets its contract. The loop's invariant: the sum of the first t terms. Assumes nothing.
 use mathlib.Core.Path.{◌≡◌}
-use Prim.Native.Nat.{◌+◌, ◌-◌}
+use Prim.Native.Nat.{◌+◌}
 use native.Mathlib.Omega.{arith}
 use Rattle.sequence.proofs.Lists.{turns_none, turns_more}
 use Rattle.model.specs.Quantities.{term_sum}

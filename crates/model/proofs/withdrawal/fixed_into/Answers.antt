@@ -1,5 +1,4 @@
 -- `model::withdrawal::fixed_into` meets its contract, word by word over the network withdrawals. Assumes nothing.
-use Prim.Native.Nat.{◌-◌}
 use mathlib.Core.Path.{◌≡◌}
 use native.Mathlib.Omega.{arith}
 use lib.Ieee.{nan}
@@ -18,10 +17,10 @@ loop-i-preserved c = let p = c.network_into.ensures in
 
 pub returns-clause-out_after : goal.returns-clause-out_after
 returns-clause-out_after c = let p = c.network_into.ensures in
-    let e : c.loop-i.i ≡ c.args.c.buses = omega arith in
+    let e : c.loop-i.i ≡ c.args.grid.now.plan.counts.buses = omega arith in
     let q = over (record { is = p.out_after; kept = p.out_len_unchanged }) (rw e at c.loop-i.invariant.0) in q.is
 
 pub returns-clause-out_len_unchanged : goal.returns-clause-out_len_unchanged
 returns-clause-out_len_unchanged c = let p = c.network_into.ensures in
-    let e : c.loop-i.i ≡ c.args.c.buses = omega arith in
+    let e : c.loop-i.i ≡ c.args.grid.now.plan.counts.buses = omega arith in
     let q = over (record { is = p.out_after; kept = p.out_len_unchanged }) (rw e at c.loop-i.invariant.0) in q.kept

@@ -5,7 +5,7 @@ use Rattle.sequence.proofs.Fronts.{Fronted}
 use Rattle.model.proofs.withdrawal.network_into.Given as goal
 
 abbrev pub invariant-loop-i : goal.invariant-loop-i
-invariant-loop-i l = Fronted (network_at l.c l.wiring l.readings) l.i l.initial.out l.out × (l.i ≤ l.n)
+invariant-loop-i l = Fronted (network_at l.grid.plan.counts l.grid.plan.wiring.now l.grid.plan.readings.now) l.i l.initial.out l.out × (l.i ≤ l.n)
 
 abbrev pub decreases-loop-i : goal.decreases-loop-i
 decreases-loop-i l = l.n - l.i

@@ -9,8 +9,8 @@ use Rattle.model.specs.Quantities.{phase_turn}
 use Rattle.model.proofs.withdrawal.phase_into.Given as goal
 
 abbrev pub invariant-loop-e : goal.invariant-loop-e
-invariant-loop-e l = ((i : ℕ) → i < l.c.buses → get_or l.out i nan ≡ turns (phase_turn l.c l.wiring l.readings i) nought l.e)
-    × ((i : ℕ) → l.c.buses ≤ i → get_or l.out i nan ≡ get_or l.initial.out i nan)
+invariant-loop-e l = ((i : ℕ) → i < l.grid.plan.counts.buses → get_or l.out i nan ≡ turns (phase_turn l.grid.plan.counts l.grid.plan.wiring.now l.grid.plan.readings.now i) nought l.e)
+    × ((i : ℕ) → l.grid.plan.counts.buses ≤ i → get_or l.out i nan ≡ get_or l.initial.out i nan)
     × (length l.out ≡ length l.initial.out)
     × (l.e ≤ l.m)
 

@@ -4,10 +4,10 @@ use Rattle.network.specs.Layout.{allow_shed}
 use Rattle.model.specs.Quantities.{shed_cap}
 use Rattle.model.proofs.withdrawal.shed_cap_at.Goals as goal
 
-pub returns-then-wiring-eq1 : goal.returns-then-wiring-eq1
+pub returns-then-plan-eq1 : goal.returns-then-plan-eq1
 unfolding shed_cap
-returns-then-wiring-eq1 c = let w = c.args.wiring.now in rw (eq-eqb (allow_shed w) 1 c.if-wiring-eq1.true, c.max_zero.ensures, c.reading.ensures)
+returns-then-plan-eq1 c = let w = c.args.plan.now.wiring.now in rw (eq-eqb (allow_shed w) 1 c.if-plan-eq1.true, c.max_zero.ensures, c.reading.ensures)
 
-pub returns-else-wiring-eq1 : goal.returns-else-wiring-eq1
+pub returns-else-plan-eq1 : goal.returns-else-plan-eq1
 unfolding shed_cap
-returns-else-wiring-eq1 c = let w = c.args.wiring.now in rw (ne_eqb (allow_shed w) 1 c.if-wiring-eq1.false)
+returns-else-plan-eq1 c = let w = c.args.plan.now.wiring.now in rw (ne_eqb (allow_shed w) 1 c.if-plan-eq1.false)

@@ -1,10 +1,8 @@
 -- `network::check::all_within` meets its contract. Assumes nothing.
 use mathlib.Core.Path.{◌≡◌, refl, sym}
-use Prim.Native.Nat.{◌-◌}
 use native.Mathlib.Omega.{arith}
 use Rattle.sequence.proofs.Lists.{every_none, every_turn}
 use lib.ListN.{length}
-use Rattle.float64.specs.Values.{within}
 use Rattle.network.specs.Numbers.{all_within}
 use Rattle.network.proofs.check.all_within.Goals as goal
 

@@ -1,7 +1,5 @@
 -- `network::check::indexes_below` meets its contract. The loop's invariant: each index passed is below the limit. Assumes nothing.
 use mathlib.Core.Path.{◌≡◌, sym}
-use mathlib.Core.Bool.{true, false}
-use Prim.Native.Nat.{◌-◌}
 use native.Mathlib.Omega.{arith}
 use borrow.Author.Tests.{le-ltb, lt-ltb}
 use Rattle.sequence.proofs.Lists.{every_none, every_more, every_fails}

@@ -17,12 +17,8 @@ returns-then-out-count c = let a = c.in_ok-site.ensures in
     let d = rw a.accepted.counts at a.solved in
     sheet_short _ _ _ _ a.number refl (snap_long _ _ _ _ _ d.accepted.wired ∙ sym d.laid.long) c.if-out-count.true
 
-pub snap_into-requires-clause-sheet_laid : goal.snap_into-requires-clause-sheet_laid
-snap_into-requires-clause-sheet_laid c = let a = c.in_ok-site.ensures in
-    site_sheet a.accepted a.solved c.piece_count-pieces.ensures.0
-
-pub snap_into-requires-clause-p_value : goal.snap_into-requires-clause-p_value
-snap_into-requires-clause-p_value c = let a = c.in_ok-site.ensures in
+pub snap_into-requires : goal.snap_into-requires
+snap_into-requires c = let a = c.in_ok-site.ensures in
     let s = site_sheet a.accepted a.solved c.piece_count-pieces.ensures.0 in (c.piece_count-pieces.ensures.0, rw (← s.long) c.if-out-count.false)
 
 pub returns : goal.returns

@@ -6,7 +6,6 @@ use Rattle.std.specs.Prelude.{Err}
 use Rattle.sequence.proofs.Answers.{refused}
 use Rattle.network.specs.declared.Counts.{Counts}
 use Rattle.snapping.proofs.Words.{dual_long}
-use Rattle.solution_check.proofs.Own.{site_sheet}
 use Rattle.sens_snap.proofs.Returns.{sheet_refused, sheet_short, sheet_done}
 use Rattle.sens_snap.proofs.calls.snap_linear.Goals as goal
 
@@ -17,10 +16,6 @@ returns-in_err-site c = let e : c.from_residual.result ≡ Err c.in_err-site.fie
 pub returns-then-out-count : goal.returns-then-out-count
 returns-then-out-count c = let a = c.in_ok-site.ensures in
     sheet_short _ _ _ _ a.number refl (dual_long _ _ _ _ _ _ _ ∙ sym (ap (λ (k : Counts). 3 * k.rows) a.accepted.counts)) c.if-out-count.true
-
-pub snap_linear_into-requires-clause-sheet_laid : goal.snap_linear_into-requires-clause-sheet_laid
-snap_linear_into-requires-clause-sheet_laid c = let a = c.in_ok-site.ensures in
-    site_sheet a.accepted a.solved c.piece_count-pieces.ensures.0
 
 pub returns : goal.returns
 returns c = let a = c.in_ok-site.ensures in

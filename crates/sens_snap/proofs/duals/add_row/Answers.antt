@@ -14,7 +14,7 @@ use Rattle.sens_snap.proofs.duals.add_row.Goals as goal
 
 pub loop-t-init : goal.loop-t-init
 loop-t-init c = let e = c.requires.q_lt_rows in
-    let r = flow_run c.requires.wired c.requires.termed c.args.q e.0 e.1 c.word-count.ensures.0 refl in
+    let r = flow_run c.args.point.now.grid.wired c.requires.termed c.args.q e.0 e.1 c.word-count.ensures.0 refl in
     ((λ e. turns_none _ _), refl, omega arith, r.0, r.1.0, λ t h. omega (arith, r.1.1 t h))
 
 pub bounds-out-e : goal.bounds-out-e
@@ -49,7 +49,7 @@ pub returns-clause-by_index_2 : goal.returns-clause-by_index_2
 returns-clause-by_index_2 c = let l = c.loop-t in
     let e = c.requires.q_lt_rows in
     let w = c.word-count.ensures.0 in
-    let r = flow_run c.requires.wired c.requires.termed c.args.q e.0 e.1 w refl in
+    let r = flow_run c.args.point.now.grid.wired c.requires.termed c.args.q e.0 e.1 w refl in
     let q : l.t ≡ c.word-count.result = omega arith in
     (λ i h. rw q at (l.invariant.0 i) ∙ turns_beyond c.args.term_index.now c.args.term_coefficient.now c.args.start c.signed-dual.result i _ _ _ h r.1.1)
 

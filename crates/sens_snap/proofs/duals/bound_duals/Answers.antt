@@ -9,14 +9,14 @@ loop-e-init c = (none _ _, omega arith, refl)
 
 pub loop-e-preserved : goal.loop-e-preserved
 loop-e-preserved c = let l = c.loop-e in
-    (more _ (omega arith) l.invariant.0 (rw (c.solved_at-in-loop-e.ensures, c.solved_at.ensures)), omega arith, l.invariant.2)
+    (more _ (omega arith) l.invariant.0 (rw (c.value-in-loop-e.ensures, c.value.ensures)), omega arith, l.invariant.2)
 
 pub returns-clause-out_after : goal.returns-clause-out_after
 returns-clause-out_after c = let l = c.loop-e in
-    let e : l.e ≡ c.args.c.branches = omega arith in
+    let e : l.e ≡ c.args.point.now.grid.plan.counts.branches = omega arith in
     let p = rw e at l.invariant.0 in p.is
 
 pub returns-clause-out_len_unchanged : goal.returns-clause-out_len_unchanged
 returns-clause-out_len_unchanged c = let l = c.loop-e in
-    let e : l.e ≡ c.args.c.branches = omega arith in
+    let e : l.e ≡ c.args.point.now.grid.plan.counts.branches = omega arith in
     let p = rw e at l.invariant.0 in p.kept

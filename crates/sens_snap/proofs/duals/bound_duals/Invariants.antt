@@ -8,7 +8,7 @@ use Rattle.solution.specs.Sheet.{solved}
 use Rattle.sens_snap.proofs.duals.bound_duals.Given as goal
 
 abbrev pub invariant-loop-e : goal.invariant-loop-e
-invariant-loop-e l = Fronted (λ e. sub binary64 (solved l.c l.p l.sheet LamUb e) (solved l.c l.p l.sheet LamLb e)) l.e l.initial.out l.out × (l.e ≤ l.to) × (l.to ≡ l.c.branches)
+invariant-loop-e l = Fronted (λ e. sub binary64 (solved l.point.grid.plan.counts l.point.pieces l.point.sheet.now LamUb e) (solved l.point.grid.plan.counts l.point.pieces l.point.sheet.now LamLb e)) l.e l.initial.out l.out × (l.e ≤ l.to) × (l.to ≡ l.point.grid.plan.counts.branches)
 
 abbrev pub decreases-loop-e : goal.decreases-loop-e
 decreases-loop-e l = l.to - l.e

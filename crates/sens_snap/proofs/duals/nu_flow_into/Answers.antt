@@ -17,7 +17,7 @@ add_row-requires-clause-q_lt_rows c = let i = c.loop-q.invariant in (omega arith
 
 pub overflow_add-start : goal.overflow_add-start
 overflow_add-start c = let l = c.loop-q in
-    omega (arith, terms_inside c.requires.wired l.q (omega arith), c.requires.wired.laid.few)
+    omega (arith, terms_inside c.args.point.now.grid.wired l.q (omega arith), c.args.point.now.grid.wired.laid.few)
 
 pub loop-q-preserved : goal.loop-q-preserved
 loop-q-preserved c = let a = c.add_row.ensures in
@@ -34,7 +34,7 @@ loop-q-preserved c = let a = c.add_row.ensures in
 pub returns-clause-out_after : goal.returns-clause-out_after
 unfolding nu_flow
 returns-clause-out_after c = let l = c.loop-q in
-    let e : l.q ≡ c.args.c.rows = omega arith in
+    let e : l.q ≡ c.args.point.now.grid.plan.counts.rows = omega arith in
     let b = c.bound_duals.ensures in
     let p =
     over (record { is = b.out_after; kept = b.out_len_unchanged })
@@ -43,7 +43,7 @@ returns-clause-out_after c = let l = c.loop-q in
 pub returns-clause-out_len_unchanged : goal.returns-clause-out_len_unchanged
 unfolding nu_flow
 returns-clause-out_len_unchanged c = let l = c.loop-q in
-    let e : l.q ≡ c.args.c.rows = omega arith in
+    let e : l.q ≡ c.args.point.now.grid.plan.counts.rows = omega arith in
     let b = c.bound_duals.ensures in
     let p =
     over (record { is = b.out_after; kept = b.out_len_unchanged })

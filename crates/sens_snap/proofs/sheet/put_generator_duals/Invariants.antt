@@ -8,7 +8,7 @@ use Rattle.sens_snap.proofs.Stores.{Stored}
 use Rattle.sens_snap.proofs.sheet.put_generator_duals.Given as goal
 
 abbrev pub invariant-loop-t : goal.invariant-loop-t
-invariant-loop-t l = Stored (λ t. eval (reading l.c l.readings) (solved l.c l.p l.sheet) (segment_dual l.j l.g (l.start + t))) l.at l.t l.initial.out l.out × (l.t ≤ l.count) × (l.start + l.count ≤ 1024)
+invariant-loop-t l = Stored (λ t. eval (reading l.point.grid.plan.counts l.point.grid.plan.readings.now) (solved l.point.grid.plan.counts l.point.pieces l.point.sheet.now) (segment_dual l.j l.g (l.start + t))) l.at l.t l.initial.out l.out × (l.t ≤ l.count) × (l.start + l.count ≤ 1024)
 
 abbrev pub decreases-loop-t : goal.decreases-loop-t
 decreases-loop-t l = l.count - l.t

@@ -8,13 +8,13 @@ use Rattle.sens_snap.proofs.Stores.{Runs}
 use Rattle.sens_snap.proofs.sheet.put_segment_duals.Given as goal
 
 abbrev pub invariant-loop-j : goal.invariant-loop-j
-invariant-loop-j l = Runs (segment_words l.c l.wiring l.p l.readings l.sheet) l.at l.j l.start l.initial.out l.out
+invariant-loop-j l = Runs (segment_words l.point.grid.plan.counts l.point.grid.plan.wiring.now l.point.pieces l.point.grid.plan.readings.now l.point.sheet.now) l.at l.j l.start l.initial.out l.out
     × (l.j ≤ l.to)
-    × (l.to ≡ l.c.generators)
+    × (l.to ≡ l.point.grid.plan.counts.generators)
     × (l.to ≤ 256)
-    × (l.g ≡ piece_rank l.c l.wiring l.j)
+    × (l.g ≡ piece_rank l.point.grid.plan.counts l.point.grid.plan.wiring.now l.j)
     × (l.g ≤ l.j)
-    × (l.start ≡ segment_start l.c l.wiring l.j)
+    × (l.start ≡ segment_start l.point.grid.plan.counts l.point.grid.plan.wiring.now l.j)
     × (l.start ≤ 1024)
 
 abbrev pub decreases-loop-j : goal.decreases-loop-j

@@ -15,6 +15,6 @@ loop-i-preserved c = let l = c.loop-i in (more _ l.invariant.0 c.snapped_at.ensu
 pub returns : goal.returns
 unfolding plain_words
 returns c = let l = c.loop-i in
-    let e : l.i ≡ size c.args.c c.args.p c.args.e = omega arith in
+    let e : l.i ≡ size c.args.point.now.grid.plan.counts c.args.point.now.pieces c.args.e = omega arith in
     let r = rw e at l.invariant.0 in
     r.is

@@ -9,7 +9,7 @@ use Rattle.sens_snap.proofs.Stores.{Stored}
 use Rattle.sens_snap.proofs.sheet.put_words.Given as goal
 
 abbrev pub invariant-loop-i : goal.invariant-loop-i
-invariant-loop-i l = Stored (λ i. eval (reading l.c l.readings) (solved l.c l.p l.sheet) (snapped_at l.c l.wiring l.e i)) l.at l.i l.initial.out l.out × (l.i ≤ l.to) × (l.to ≡ size l.c l.p l.e)
+invariant-loop-i l = Stored (λ i. eval (reading l.point.grid.plan.counts l.point.grid.plan.readings.now) (solved l.point.grid.plan.counts l.point.pieces l.point.sheet.now) (snapped_at l.point.grid.plan.counts l.point.grid.plan.wiring.now l.e i)) l.at l.i l.initial.out l.out × (l.i ≤ l.to) × (l.to ≡ size l.point.grid.plan.counts l.point.pieces l.e)
 
 abbrev pub decreases-loop-i : goal.decreases-loop-i
 decreases-loop-i l = l.to - l.i

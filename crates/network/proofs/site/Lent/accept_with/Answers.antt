@@ -15,11 +15,11 @@ returns-then-not-sizes-clause-number c = number_own_size _ _ _ (held c.sizes_hol
 pub counts-counts-requires : goal.counts-counts-requires
 counts-counts-requires c = sized_nine _ (held c.sizes_hold.ensures c.if-not-sizes_hold.false)
 
-pub wiring_holds-requires-clause-wiring_laid : goal.wiring_holds-requires-clause-wiring_laid
-wiring_holds-requires-clause-wiring_laid c = rw c.counts-counts.ensures (sized_wiring (network_in c.args.self) (held c.sizes_hold.ensures c.if-not-sizes_hold.false))
+pub invariant_of-wiring : goal.invariant_of-wiring
+invariant_of-wiring c = record { laid = rw c.counts-counts.ensures (sized_wiring (network_in c.args.self) (held c.sizes_hold.ensures c.if-not-sizes_hold.false)) }
 
-pub wiring_holds-requires-clause-rows_in_bounds : goal.wiring_holds-requires-clause-rows_in_bounds
-wiring_holds-requires-clause-rows_in_bounds c = let h = held c.sizes_hold.ensures c.if-not-sizes_hold.false in
+pub wiring_holds-requires : goal.wiring_holds-requires
+wiring_holds-requires c = let h = held c.sizes_hold.ensures c.if-not-sizes_hold.false in
     rw c.counts-counts.ensures (le_of_eq (sized_terms (network_in c.args.self) h ∙ sym (sized_indexes (network_in c.args.self) h)))
 
 pub returns-then-not-wiring_holds-clause-number : goal.returns-then-not-wiring_holds-clause-number
@@ -31,9 +31,17 @@ readings_hold-requires c = rw c.counts-counts.ensures (sized_readings (network_i
 pub returns-then-not-readings_hold-clause-number : goal.returns-then-not-readings_hold-clause-number
 returns-then-not-readings_hold-clause-number c = number_reading _ _ _ c.counts-counts.ensures (held c.sizes_hold.ensures c.if-not-sizes_hold.false) c.if-not-sizes.false (held c.wiring_holds.ensures c.if-not-wiring_holds.false) (failed c.readings_hold.ensures c.if-not-readings_hold.true)
 
+pub invariant_of-plan : goal.invariant_of-plan
+invariant_of-plan c = let r = number_none (network_in c.args.self) _ _ c.counts-counts.ensures (held c.sizes_hold.ensures c.if-not-sizes_hold.false) c.if-not-sizes.false (held c.wiring_holds.ensures c.if-not-wiring_holds.false) (held c.readings_hold.ensures c.if-not-readings_hold.false) c.if-values.true in
+    rw c.counts-counts.ensures (record { wiring_laid = r.1.wired.laid; readings_laid = r.1.read })
+
+pub invariant_of-grid : goal.invariant_of-grid
+invariant_of-grid c = let r = number_none (network_in c.args.self) _ _ c.counts-counts.ensures (held c.sizes_hold.ensures c.if-not-sizes_hold.false) c.if-not-sizes.false (held c.wiring_holds.ensures c.if-not-wiring_holds.false) (held c.readings_hold.ensures c.if-not-readings_hold.false) c.if-values.true in
+    rw c.counts-counts.ensures (record { wired = r.1.wired })
+
 pub invariant_of-result : goal.invariant_of-result
 invariant_of-result c = let r = number_none (network_in c.args.self) _ _ c.counts-counts.ensures (held c.sizes_hold.ensures c.if-not-sizes_hold.false) c.if-not-sizes.false (held c.wiring_holds.ensures c.if-not-wiring_holds.false) (held c.readings_hold.ensures c.if-not-readings_hold.false) c.if-values.true in
-    rw c.counts-counts.ensures (record { wired = r.1.wired; readings_laid = r.1.read; termed = r.1.termed })
+    rw c.counts-counts.ensures (record { termed = r.1.termed })
 
 pub returns-then-values-clause-number : goal.returns-then-values-clause-number
 returns-then-values-clause-number c = (number_none _ _ _ c.counts-counts.ensures (held c.sizes_hold.ensures c.if-not-sizes_hold.false) c.if-not-sizes.false (held c.wiring_holds.ensures c.if-not-wiring_holds.false) (held c.readings_hold.ensures c.if-not-readings_hold.false) c.if-values.true).0

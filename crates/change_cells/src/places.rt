@@ -1,0 +1,16 @@
+// Where the matrix's cells stand.
+ghost use Rattle.network.specs.Numbers.{Wired};
+ghost use Rattle.kkt_index.specs.Index.{Narrow};
+
+use kkt_index::KktIdx;
+use network::Counts;
+
+// A network's wiring, and the index that says where the matrix's rows and columns stand.
+#[derive(Clone, Copy)]
+pub struct Places<'a> {
+    pub counts: Counts,
+    pub wiring: &'a [u32],
+    pub index: KktIdx,
+    pub ghost wired: { Wired counts wiring.now },
+    pub ghost narrow: { Narrow index },
+}

@@ -1,0 +1,2 @@
+-- The definitions that the contracts cite: a generator's turn of a loop. Assumes nothing.
+pub mod Turns

@@ -1,2 +1,0 @@
--- What the loops that put the program keep. Assumes nothing.
-pub mod Groups

@@ -151,10 +151,12 @@ class Types:
     """structs that lend: their fields and what their ghost fields say"""
 
     def __init__(self, root, before):
-        self.fields, self.ghosts, self.crate = {}, {}, {}
+        self.fields, self.ghosts, self.crate, self.private = {}, {}, {}, set()
         for path in sorted(glob.glob(os.path.join(root, 'crates/*/src/**/*.rt'), recursive=True)):
             text = open(path, encoding='utf-8').read()
-            for m in re.finditer(r"^pub struct (\w+)(<'a>)? \{\n(.*?)^\}", text, re.M | re.S):
+            crate = os.path.relpath(path, os.path.join(root, 'crates')).split('/')[0]
+            self.private |= {(crate, n) for n in re.findall(r'^struct (\w+)', text, re.M)}
+            for m in re.finditer(r"^pub struct (\w+)(<'[^>]*>)? \{\n(.*?)^\}", text, re.M | re.S):
                 name, body = m.group(1), m.group(3)
                 if not m.group(2) and name in before:
                     continue
@@ -260,7 +262,10 @@ def over_modules(new):
 
 
 # Old parameter -> field, where they have not one name. Names in the list are tried in turn.
-FIELDS = {'c': ['counts'], 'x': ['index'], 'idx': ['index'], 'solution': ['sheet'], 'p': ['pieces'], 'lay': ['layout']}
+FIELDS = {
+    'c': ['counts'], 'x': ['index'], 'idx': ['index'], 'solution': ['sheet'], 'p': ['pieces'], 'lay': ['layout'], 'wiring': ['wiring', 'words'],
+    'sums': ['values'], 'column': ['words'], 's': ['side'],
+}
 
 # Types that became std's.
 RESULTS = {'Item': 'Option<Triplet>', 'Three': '[Option<Triplet>; 3]', 'Linear': 'Option<f64>', 'Part': 'Option<usize>', 'Gathering': 'Option<usize>'}
@@ -288,7 +293,8 @@ class Pair:
         names_new = dict(new)
         self.kept = [n for n, k in old if n in names_new and plain(k) == plain(names_new[n])]
         left = [(n, k) for n, k in old if n not in self.kept]
-        self.bundles = [(n, T.name(k), k) for n, k in new if n not in self.kept and T.name(k)]
+        mine = lambda k: T.name(k) and (self.name.split(' ')[0], T.name(k)) not in T.private  # noqa: E731
+        self.bundles = [(n, T.name(k), k) for n, k in new if n not in self.kept and mine(k)]
         self.place, self.buffer = {}, None
         for n, bundle, kind in self.bundles:
             taken = []
@@ -313,7 +319,7 @@ class Pair:
                     self.place['idx.pieces'] = next(p for p, f, _ in leaves if f == 'pieces')
             left = [(o, k) for o, k in left if o not in taken]
             self.groups.append((taken, n))
-        fresh = [(n, k) for n, k in new if n not in self.kept and not T.name(k)]
+        fresh = [(n, k) for n, k in new if n not in self.kept and not mine(k)]
         # a number and a count are an answer
         for n, k in fresh:
             if n == 'answer' and k in ('Answer', 'Result<Written, Refusal>'):
@@ -765,6 +771,42 @@ MORE = {
     'opf_problem lib.rt lay_program': 'the same: `parts_in` (opf_problem/specs/Walks) names the parts that the old clause spells out',
     'opf_problem lib.rt lay_sides': 'the same: `parts_in` (opf_problem/specs/Walks) names the parts that the old clause spells out',
     'kkt_rows lib.rt put_terms': 'by its type, and the terms are the site\'s; its callers have such a value',
+    'opf_readback lib.rt cost_sum': 'the same of a slice: it is just what is filled or read, cut by the caller, where it stood beside a place in the whole',
+    'opf_readback lib.rt objective_of': 'the same of a slice: it is just what is filled or read, cut by the caller, where it stood beside a place in the whole',
+    'opf_readback lib.rt put_duals': 'the same of a slice: it is just what is filled or read, cut by the caller, where it stood beside a place in the whole',
+    'opf_readback lib.rt put_entry': 'the same of a slice: it is just what is filled or read, cut by the caller, where it stood beside a place in the whole',
+    'opf_readback lib.rt put_flagged': 'the same of a slice: it is just what is filled or read, cut by the caller, where it stood beside a place in the whole',
+    'opf_readback lib.rt put_lower': 'the same of a slice: it is just what is filled or read, cut by the caller, where it stood beside a place in the whole',
+    'opf_readback lib.rt put_sheds': 'the same of a slice: it is just what is filled or read, cut by the caller, where it stood beside a place in the whole',
+    'opf_readback lib.rt put_turned': 'the same of a slice: it is just what is filled or read, cut by the caller, where it stood beside a place in the whole',
+    'opf_readback lib.rt put_values': 'the same of a slice: it is just what is filled or read, cut by the caller, where it stood beside a place in the whole',
+    'opf_readback lib.rt signed_of': 'the same of a slice: it is just what is filled or read, cut by the caller, where it stood beside a place in the whole',
+    'problem lib.rt nodal_into': 'the same of a slice: it is just what is filled or read, cut by the caller, where it stood beside a place in the whole',
+    'sens_operands lib.rt put_rows': 'the same of a slice: it is just what is filled or read, cut by the caller, where it stood beside a place in the whole',
+    'sens_snap duals.rt bound_duals': 'the same of a slice: it is just what is filled or read, cut by the caller, where it stood beside a place in the whole',
+    'sens_snap sheet.rt put_entry': 'the same of a slice: it is just what is filled or read, cut by the caller, where it stood beside a place in the whole',
+    'sens_snap sheet.rt put_generator_duals': 'the same of a slice: it is just what is filled or read, cut by the caller, where it stood beside a place in the whole',
+    'sens_snap sheet.rt put_segment_duals': 'the same of a slice: it is just what is filled or read, cut by the caller, where it stood beside a place in the whole',
+    'sens_snap sheet.rt put_words': 'the same of a slice: it is just what is filled or read, cut by the caller, where it stood beside a place in the whole',
+    'parameter_column lib.rt constraint_column': 'the same: `Column` holds counts, index and words that are fitted, and the counts are the point\'s; of the sheet it asks what it asked, of the point\'s own pieces',
+    'parameter_column lib.rt demand_column': 'the same: `Column` holds counts, index and words that are fitted, and the counts are the point\'s; of the sheet it asks what it asked, of the point\'s own pieces',
+    'parameter_column lib.rt gamma_column': 'the same: `Column` holds counts, index and words that are fitted, and the counts are the point\'s; of the sheet it asks what it asked, of the point\'s own pieces',
+    'parameter_column lib.rt limit_column': 'the same: `Column` holds counts, index and words that are fitted, and the counts are the point\'s; of the sheet it asks what it asked, of the point\'s own pieces',
+    'parameter_column lib.rt quadratic_column': 'the same: `Column` holds counts, index and words that are fitted, and the counts are the point\'s; of the sheet it asks what it asked, of the point\'s own pieces',
+    'parameter_column lib.rt shift_column': 'the same: `Column` holds counts, index and words that are fitted, and the counts are the point\'s; of the sheet it asks what it asked, of the point\'s own pieces',
+    'parameter_column lib.rt susceptance_column': 'the same: `Column` holds counts, index and words that are fitted, and the counts are the point\'s; of the sheet it asks what it asked, of the point\'s own pieces',
+    'parameter_column lib.rt switching_column': 'the same: `Column` holds counts, index and words that are fitted, and the counts are the point\'s; of the sheet it asks what it asked, of the point\'s own pieces',
+    'parameter_column lib.rt weight_column': 'the same: `Column` holds counts, index and words that are fitted, and the counts are the point\'s; of the sheet it asks what it asked, of the point\'s own pieces',
+    'opf_readback lib.rt read_into': 'the same: `RawPoint` says of the vectors and the layout what the old clauses said, and the number of pieces is the layout\'s',
+    'sens_snap sheet.rt snap_into': 'the same: `CountedPoint` says of the point what the clause on its pieces said',
+    'site_text lib.rt put_named_b': 'the same of a change\'s kind and index, which the old clauses read from its first word',
+    'contraction lib.rt adjoint_column': 'the same of slices as long as the system: `Sheet` and the slices hold dimension and columns, which went beside them',
+    'contraction lib.rt adjoint_word': 'the same of slices as long as the system: `Sheet` and the slices hold dimension and columns, which went beside them',
+    'contraction lib.rt contract_columns': 'the same of slices as long as the system: `Sheet` and the slices hold dimension and columns, which went beside them',
+    'contraction lib.rt gather_rest': 'the same of slices as long as the system: `Sheet` and the slices hold dimension and columns, which went beside them',
+    'opf_rows lib.rt put_both': 'by its type: `LinearRow` says of row and start what the old clauses said, and holds the site, which its callers have',
+    'opf_rows lib.rt put_terms': 'by its type: `LinearRow` says of row and start what the old clauses said, and holds the site, which its callers have',
+    'opf_rows lib.rt put_written': 'by its type: `LinearRow` says of row and start what the old clauses said, and holds the site, which its callers have',
     'replay_opf main.rt number_at': 'before, it answered 0 where there is no number; its callers stay within the record',
     'sens_parameters lib.rt lay_columns': 'before, of any number of pieces that the sheet is laid with; its one caller had the number that the wiring gives',
 }
@@ -877,17 +919,20 @@ def why(p):
 # Of what tools/places.py prints, what stays and why; the first pattern that a line fits counts.
 KEPT = {
     '1': [('C', r'.')],
-    '2': [('C', r'crates/capi'), ('plain', r'crates/(decoding|replay_)|fn (keep_row|put_row) '), ('form', r'fn (linear_rows|count_sheds|count_equalities|count_inequalities) ')],
-    '3': [('form', r'while let'), ('plain', r'crates/(kkt_chains|susceptance)/.*while|crates/(problem|sens_operands|words|capi_terms|sens_snap|model|network)/')],
+    '2': [('C', r'crates/capi'), ('plain', r'crates/(decoding|replay_)|fn (columns|rows) '), ('form', r'fn (linear_rows|count_sheds|count_equalities|count_inequalities) ')],
+    '3': [('form', r'while let'), ('speed', r'crates/network/'), ('plain', r'crates/(kkt_chains|susceptance)/.*while|crates/(words|model)/')],
     '4': [('form', r'fn (try_from|number) '), ('plain', r'fn (objective_of|solved_is_long|limits_of|is_named) ')],
     '5': [
         ('C', r'crates/capi|crates/replay_|crates/decoding|fn (change|make|run_changes|change_b|susceptance_coo|kkt_triplets|assemble_opf):'),
-        ('to do', r': (out, at|idx, column|point, term_index, term_coefficient|kkt, term_index, term_coefficient)$'),
         ('plain', r'.'),
     ],
     '6': [('plain', r'.')],
     '7': [('plain', r'.')],
 }
+
+
+# Places that tools/places.py does not see, found by reading, and still to do.
+READ = {'1': 7, '2': 15, '3': 14, '4': 21, '5': 8, '6': 2, '7': 2}
 
 
 def counted(new, text):
@@ -917,7 +962,7 @@ def counted(new, text):
         for line in run(point):
             kept[next((why for why, p in KEPT[point] if re.search(p, line)), 'todo')] += 1
         forms, todo = kept.pop('form', 0), kept.pop('todo', 0) + kept.pop('to do', 0)
-        rows.append(f'| {point} | {before[point]} | {before[point] - today[point]} | {", ".join(f"{c} {w}" for w, c in kept.items()) or "0"} | {forms} | {todo} |')
+        rows.append(f'| {point} | {before[point]} | {before[point] - today[point]} | {", ".join(f"{c} {w}" for w, c in kept.items()) or "0"} | {forms} | {todo + READ[point]} |')
     head = '| point | places found | changed | kept, with a reason | of today\'s forms | still to do |\n|---|---|---|---|---|---|\n'
     return re.sub(r'\| point \| places found .*?\n(?=\| 8 )', lambda _: head + '\n'.join(rows) + '\n', text, count=1, flags=re.S)
 

@@ -1,5 +1,6 @@
 // What the numbers stand for by which other languages ask for a parameter, an operand or a mode, and the unit scale
 // asked for by such numbers.
+// C hands any number in, so one that is no kind stands for a kind that is not served: the call refuses both alike.
 #![tactic(auto)]
 
 ghost use Rattle.std.specs.Prelude.{◌≡◌};

@@ -8,7 +8,7 @@ ghost use Rattle.model.specs.Calls.{shed_cap_call, flow_offset_call, generator_c
 ghost use Rattle.decoding.specs.Exports.{out, whole, all_whole, decoded, filled_out};
 
 use decoding::answer::pack;
-use decoding::decode::take_doubles;
+use decoding::decode::take;
 use decoding::fill::fill_sheet;
 use model::dc::{current_flow_offset, evaluate, generator_cost, shed_cap};
 use sequence::Refusal;
@@ -92,15 +92,13 @@ pub extern "C" fn capi_evaluate(
     ensures { out result sheet.new ≡ filled_out (all_whole wiring.entry readings.entry term_index.entry term_coefficient.entry && (whole 8 f.now && whole 8 pg.now)) (evaluate_call (decoded wiring.entry readings.entry term_index.entry term_coefficient.entry) row (doubles_of f.now) (doubles_of pg.now) (doubles_of sheet.old)) sheet.old }
 {
     let mut fs = [0.0; 512];
-    let Some(count) = take_doubles(f, &mut fs) else {
+    let Some(flows) = take(f, &mut fs) else {
         return pack(Err(Refusal::Size));
     };
-    let flows = &fs[..count];
     let mut ps = [0.0; 256];
-    let Some(count) = take_doubles(pg, &mut ps) else {
+    let Some(powers) = take(pg, &mut ps) else {
         return pack(Err(Refusal::Size));
     };
-    let powers = &ps[..count];
     fill_sheet::<1, _>(
         wiring,
         readings,

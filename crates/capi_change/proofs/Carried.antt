@@ -6,8 +6,8 @@ use mathlib.Core.List.{List, [], ◌++◌, append-nil}
 use Prim.Native.Nat.{ℕ, ◌*◌, ◌/◌, ◌%◌, ◌≤◌}
 use native.Mathlib.Omega.{arith}
 use lib.Dec.{eqb}
-use lib.ListN.{length, take, length-map}
-use lib.Seq.{take-length, drop-length}
+use lib.ListN.{length, length-map}
+use lib.Seq.{drop-length}
 use lib.Ieee.{Float}
 use borrow.Author.Tests.{eqb-true, ltb-false, ne_eqb}
 use Rattle.sequence.specs.Lists.{front}
@@ -31,7 +31,8 @@ use Rattle.decoding.specs.Decoding.{list_room, ListCells}
 use Rattle.decoding.proofs.Decoded.{wholes}
 use Rattle.decoding.proofs.Listed.{rooms}
 use Rattle.decoding.proofs.Answered.{last_passed, last_same, passed_network, size_fails}
-use Rattle.job_book.specs.Book.{Change, kind_of, index_of, value_of, Given, Words, words, Outcome, outcome, own_tests, outcome_by_number, counts_in, network_of, matrix_of, changed, number_of, step}
+use Rattle.job_book.specs.declared.Change.{Change}
+use Rattle.job_book.specs.Book.{Given, Words, words, Outcome, outcome, own_tests, outcome_by_number, counts_in, network_of, matrix_of, changed, number_of, step}
 use Rattle.capi_change.specs.Told.{leaves, told_bytes}
 
 -- ---- the bytes of a list do not depend on the sheets that it is cut from
@@ -55,11 +56,11 @@ count_by n ts q W most h false e = rw e (omega arith)
 -- ---- the bytes of an accepted change
 
 -- the bytes of all readings are all the bytes
-all_new : (rs : List Float) (B : List ℕ) → 8 * length rs ≡ length B → front (double_bytes (take (length rs) rs)) B ≡ double_bytes rs
+all_new : (rs : List Float) (B : List ℕ) → 8 * length rs ≡ length B → front (double_bytes rs) B ≡ double_bytes rs
 unfolding front
 all_new rs B e =
     let l : length (double_bytes rs) ≡ length B = double_bytes-length rs ∙ e in
-    rw (take-length rs, l, drop-length B, append-nil (double_bytes rs))
+    rw (l, drop-length B, append-nil (double_bytes rs))
 
 taken_bytes : (k : ℕ) (W : Words) (B R C X : List ℕ) {a : ℕ} {R' C' X' : List ℕ} → outs a R' C' X' ≡ laid_out true (laid 0 k W.rows W.cols W.values) R C X → leaves a (double_bytes W.readings) R' C' X' ≡ told_bytes true (outcome 0 k W) B R C X
 unfolding told_bytes laid_out
@@ -88,12 +89,12 @@ module _ (G : Given) (rule : Rule) (read : List Float) (h : Change) where
   first = solution_tests false N G.solution
 
   abbrev tests : List Test
-  tests = first ++ own_tests (counts_in G) (kind_of h) (index_of h) (value_of h)
+  tests = first ++ own_tests (counts_in G) h.kind h.index h.value
 
   -- where no test before 7 holds the network is accepted, and its list is short
   first_none : first_of tests ≡ 0 → first_of first ≡ 0
   unfolding marked
-  first_none e = front_passed first (own_tests (counts_in G) (kind_of h) (index_of h) (value_of h)) tt e
+  first_none e = front_passed first (own_tests (counts_in G) h.kind h.index h.value) tt e
 
   small : first_of tests ≡ 0 → length list ≤ 27552
   small e =
@@ -139,11 +140,11 @@ module _ (G : Given) (rule : Rule) (read : List Float) (h : Change) where
       change_refused z {a} p B = ap (λ (x : ℕ). leaves x B R C X) p ∙ refused_bytes z B ∙ over B
 
       -- accepted: every reading's bytes, and the list's in front
-      pub change_taken : n ≡ 0 → {a m : ℕ} {B' R' C' X' : List ℕ} (B : List ℕ) → B' ≡ front (double_bytes (take m W.readings)) B → m ≡ length W.readings → 8 * length W.readings ≡ length B
+      pub change_taken : n ≡ 0 → {a : ℕ} {B' R' C' X' : List ℕ} (B : List ℕ) → B' ≡ front (double_bytes W.readings) B → 8 * length W.readings ≡ length B
           → outs a R' C' X' ≡ laid_out true (laid 0 k W.rows W.cols W.values) R C X
           → leaves a B' R' C' X' ≡ told_bytes true (step G rule none (words read (words_of R) (words_of C) (doubles_of X)) h) B R C X
-      change_taken z {a} {m} {B'} {R'} {C'} {X'} B b d l t =
-          let g : B' ≡ double_bytes W.readings = b ∙ ap (λ (j : ℕ). front (double_bytes (take j W.readings)) B) d ∙ all_new W.readings B l in
+      change_taken z {a} {B'} {R'} {C'} {X'} B b l t =
+          let g : B' ≡ double_bytes W.readings = b ∙ all_new W.readings B l in
           ap (λ (x : List ℕ). leaves a x R' C' X') g ∙ taken_bytes k W B R C X t ∙ ap (λ (j : ℕ). told_bytes true (outcome j k W) B R C X) (sym z) ∙ over B
 
   -- ---- sizes that do not hold are refused at once

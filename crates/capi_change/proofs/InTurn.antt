@@ -1,24 +1,52 @@
 -- Change calls in turn, by the last one: what they have left and written so far. Main results: `begin`, `more`; `uneven`, `short`, `done`. Assumes nothing.
 use mathlib.Core.Path.{◌≡◌, refl, ap, ◌∙◌}
 use mathlib.Core.Logic.{◌⊎◌, inl, inr}
-use mathlib.Core.List.{List}
-use Prim.Native.Nat.{ℕ, suc, ◌+◌, ◌*◌, ◌/◌, ◌%◌, ◌≤◌, ◌<◌}
+use mathlib.Core.List.{List, []}
+use Prim.Native.Nat.{ℕ, zero, suc, ◌+◌, ◌*◌, ◌/◌, ◌%◌, ◌≤◌, ◌<◌}
 use native.Mathlib.Numerals.{add-one}
 use native.Mathlib.Omega.{arith}
-use lib.ListN.{length}
+use lib.ListN.{length, get_or, drop}
 use lib.Seq.{sets, length-sets}
 use borrow.Author.Tests.{eq-eqb, ne_eqb, lt-ltb, le-ltb}
+use Rattle.std.specs.Simd.{first_chunks}
+use Rattle.std.proofs.lemmas.List.{get_or-take, get_or-drop}
 use Rattle.sequence.specs.Lists.{made, front}
 use Rattle.sequence.specs.Answers.{first_of}
 use Rattle.words.specs.Words.{at32, bytes_of, joined, word_bytes}
-use Rattle.words.proofs.Laws.{bytes_length, joined_made}
+use Rattle.words.specs.Sizes.{bytes_of_length}
+use Rattle.words.proofs.Laws.{joined_made}
 use Rattle.job_book.specs.Book.{change}
 use Rattle.capi_change.specs.Told.{Bytes, leaves}
 use Rattle.capi_change.specs.InTurn.{Fed, called_for, called, after_calls, number_at, count_at, in_turn, in_turn_number, in_turn_call}
 
+-- ---- a slice by twelve bytes
+
+byte_in : (k : ℕ) (b : List ℕ) (i j : ℕ) → i < k → j < 12 → get_or (get_or (first_chunks 12 k b) i []) j 0 ≡ get_or b (12 * i + j) 0
+byte_in zero b i j h l = absurd (omega arith)
+byte_in (suc k) b zero j h l =
+    let e : j ≡ 12 * 0 + j = omega arith in
+    get_or-take 12 b j 0 l ∙ ap (λ (m : ℕ). get_or b m 0) e
+byte_in (suc k) b (suc i) j h l =
+    let e : 12 + (12 * i + j) ≡ 12 * suc i + j = omega arith in
+    byte_in k (drop 12 b) i j (omega arith) l ∙ get_or-drop 12 b (12 * i + j) 0 ∙ ap (λ (m : ℕ). get_or b m 0) e
+
+word_of : (k : ℕ) (b : List ℕ) (i j : ℕ) → i < k → j + 3 < 12 → at32 (get_or (first_chunks 12 k b) i []) j ≡ at32 b (12 * i + j)
+word_of k b i j h l =
+    let e₁ : 12 * i + (j + 1) ≡ 12 * i + j + 1 = omega arith in
+    let e₂ : 12 * i + (j + 2) ≡ 12 * i + j + 2 = omega arith in
+    let e₃ : 12 * i + (j + 3) ≡ 12 * i + j + 3 = omega arith in
+    rw (byte_in k b i j h (omega arith), byte_in k b i (j + 1) h (omega arith), byte_in k b i (j + 2) h (omega arith), byte_in k b i (j + 3) h (omega arith), e₁, e₂, e₃) refl
+
 -- the call for a change's three words is the one for the bytes that they are
-pub called_by : (F : Fed) (B : Bytes) (i : ℕ) {h l g : ℕ} → h ≡ at32 F.changes (12 * i) → l ≡ at32 F.changes (12 * i + 4) → g ≡ at32 F.changes (12 * i + 8) → called_for F B (change h l g) ≡ called F B i
-called_by F B i p q s = ap (called_for F B) (rw (p, q, s))
+pub called_by : (F : Fed) (B : Bytes) (i : ℕ) {whole : List (List ℕ)} {h l g : ℕ} → whole ≡ first_chunks 12 (length F.changes / 12) F.changes → i < length F.changes / 12
+    → h ≡ at32 (get_or whole i []) 0 → l ≡ at32 (get_or whole i []) 4 → g ≡ at32 (get_or whole i []) 8 → called_for F B (change h l g) ≡ called F B i
+called_by F B i {whole} {h} {l} {g} e n p q s =
+    let k : ℕ = length F.changes / 12 in
+    let z : 12 * i + 0 ≡ 12 * i = omega arith in
+    let a : h ≡ at32 F.changes (12 * i) = rw (p, e, word_of k F.changes i 0 n (omega arith), z) refl in
+    let b : l ≡ at32 F.changes (12 * i + 4) = rw (q, e, word_of k F.changes i 4 n (omega arith)) refl in
+    let d : g ≡ at32 F.changes (12 * i + 8) = rw (s, e, word_of k F.changes i 8 n (omega arith)) refl in
+    rw (a, b, d) refl
 
 module _ (F : Fed) (B : Bytes) where
   -- what i calls have left and written
@@ -51,8 +79,8 @@ module _ (F : Fed) (B : Bytes) where
         rows = rw add-one (ap (λ (t : Bytes). t.rows) left);
         cols = rw add-one (ap (λ (t : Bytes). t.cols) left);
         values = rw add-one (ap (λ (t : Bytes). t.values) left);
-        numbers = joined_made (bytes_of 4) 4 (bytes_length 4) (number_at F B) i ns ns' ns'' hn g.numbers (b ∙ ap (λ (w : ℕ). sets ns' (4 * i) (bytes_of 4 (w % 256))) word);
-        counts = joined_made (bytes_of 4) 4 (bytes_length 4) (count_at F B) i ks ks' ks'' hk g.counts (d ∙ ap (λ (w : ℕ). sets ks' (4 * i) (bytes_of 4 (w / 256))) word);
+        numbers = joined_made (bytes_of 4) 4 (bytes_of_length 4) (number_at F B) i ns ns' ns'' hn g.numbers (b ∙ ap (λ (w : ℕ). sets ns' (4 * i) (bytes_of 4 (w % 256))) word);
+        counts = joined_made (bytes_of 4) 4 (bytes_of_length 4) (count_at F B) i ks ks' ks'' hk g.counts (d ∙ ap (λ (w : ℕ). sets ks' (4 * i) (bytes_of 4 (w / 256))) word);
         numbers_kept = ap (λ (l : List ℕ). length l) b ∙ length-sets ns' (4 * i) (bytes_of 4 (a % 256)) ∙ g.numbers_kept;
         counts_kept = ap (λ (l : List ℕ). length l) d ∙ length-sets ks' (4 * i) (bytes_of 4 (a / 256)) ∙ g.counts_kept;
       }

@@ -6,7 +6,8 @@ use Rattle.sequence.specs.Answers.{test, first_of}
 use Rattle.words.specs.Words.{at32, words_of, doubles_of, word_bytes}
 use Rattle.kkt.specs.Slots.Rule.{first_place}
 use Rattle.decoding.specs.Exports.{whole}
-use Rattle.job_book.specs.Book.{Change, change, given, words, step}
+use Rattle.job_book.specs.declared.Change.{Change}
+use Rattle.job_book.specs.Book.{change, given, words, step}
 use Rattle.capi_change.specs.Told.{Bytes, told_bytes}
 
 -- change i of a slice, twelve bytes each

@@ -7,6 +7,7 @@ ghost use Rattle.capi_change.specs.Told.{told, telling, told_run, telling_run};
 use change::change;
 use change_run::run_changes;
 use decoding::answer::pack;
+use job_book::Change;
 use sequence::number;
 
 #[unsafe(no_mangle)]
@@ -34,9 +35,7 @@ pub extern "C" fn site_change(
         rows,
         cols,
         values,
-        head,
-        low,
-        high,
+        Change::of(head, low, high),
     ))
 }
 

@@ -10,12 +10,12 @@ ghost use Rattle.capi_columns.specs.Columns.{selecting, selector_out};
 
 use asked::operand_asked;
 use decoding::Arrays;
-use decoding::answer::{listed, pack};
+use decoding::answer::{cells_for, listed, pack};
 use interface::Operand;
 use network::Lent;
 use sens_operands::operand_selector;
 use sequence::Refusal;
-use words::encode_doubles;
+use words::encode;
 
 fn selector_out(
     lent: Lent<'_>,
@@ -42,7 +42,7 @@ fn selector_out(
         weight_cells,
     ) {
         Ok(count) => {
-            encode_doubles(sign_cells, 1, sign);
+            encode(&sign_cells[..1], sign);
             listed(
                 Ok(count),
                 count_cells,
@@ -79,10 +79,10 @@ pub extern "C" fn capi_operand_selector(
     let mut count_cells = [0u32; 512];
     let mut row_cells = [0u32; 512];
     let mut weight_cells = [0.0; 512];
-    let sign_room = (sign.len() / 8).min(1);
+    let sign_room = cells_for(sign.len(), 1);
     let count_room = (counts.len() / 4).min(512);
     let row_room = (rows.len() / 4).min(512);
-    let weight_room = (weights.len() / 8).min(512);
+    let weight_room = cells_for(weights.len(), 512);
     selector_out(
         lent,
         operand_asked(operand),

@@ -13,13 +13,13 @@ ghost use Rattle.capi_columns.specs.Columns.{column_out};
 use asked::parameter_asked;
 use decoding::Arrays;
 use decoding::answer::{cells_for, pack};
-use decoding::decode::take_doubles;
+use decoding::decode::take;
 use interface::Parameter;
 use network::Lent;
 use selector_check::dim_of;
 use sens_parameters::parameter_jacobian;
 use sequence::Refusal;
-use words::encode_doubles;
+use words::encode;
 
 fn column_out(
     lent: Lent<'_>,
@@ -34,7 +34,7 @@ fn column_out(
 {
     match parameter_jacobian(lent, solution, parameter, &[column], cells) {
         Ok(count) => {
-            encode_doubles(cells, dim_of(lent), sheet);
+            encode(&cells[..dim_of(lent)], sheet);
             pack(Ok(count))
         }
         Err(refusal) => pack(Err(refusal)),
@@ -59,14 +59,14 @@ pub extern "C" fn capi_parameter_jacobian(
         return pack(Err(Refusal::Size));
     };
     let mut solved = [0.0; 6017];
-    let Some(count) = take_doubles(solution, &mut solved) else {
+    let Some(solved) = take(solution, &mut solved) else {
         return pack(Err(Refusal::Size));
     };
     let mut cells = [0.0; 6544];
     let n = cells_for(sheet.len(), 6544);
     column_out(
         lent,
-        &solved[..count],
+        solved,
         parameter_asked(parameter),
         column,
         &mut cells[..n],

@@ -3,10 +3,10 @@
 use mathlib.Core.Path.{◌≡◌, refl}
 use mathlib.Core.Bool.{Bool, true, false, ◌&&◌, and-false}
 use mathlib.Core.List.{List}
-use Prim.Native.Nat.{ℕ}
 use lib.Ieee.{Float}
 use Rattle.std.specs.Prelude.{None}
 use Rattle.network.specs.Numbers.{Network, sizes_hold}
+use Rattle.contraction.specs.Contraction.{Selector}
 use Rattle.decoding.specs.Exports.{Out}
 use Rattle.decoding.specs.Decoding.{Read}
 
@@ -33,9 +33,9 @@ missed {A} {ok} {N} own r = missing ok own (sizes_hold N) r.refused
 
 -- ---- what was decoded is what the bytes say
 
-pub told_entries : (g : Bool → Network → List ℕ → List Float → Out) {b : Bool} {M N : Network} {R R' : List ℕ} {X X' : List Float} → b ≡ true → M ≡ N → R ≡ R' → X ≡ X' → g true M R X ≡ g b N R' X'
-told_entries g e q r s = rw (e, q, r, s)
+pub told_entries : (g : Bool → Network → Selector → Out) {b : Bool} {M N : Network} {S S' : Selector} → b ≡ true → M ≡ N → S ≡ S' → g true M S ≡ g b N S'
+told_entries g e q r = rw (e, q, r)
 
-pub told_sheets : (g : Bool → Network → List ℕ → List Float → List Float → List Float → Out) {b : Bool} {M N : Network} {R R' : List ℕ} {X X' P P' Y Y' : List Float}
-    → b ≡ true → M ≡ N → R ≡ R' → X ≡ X' → P ≡ P' → Y ≡ Y' → g true M R X P Y ≡ g b N R' X' P' Y'
-told_sheets g e q r s p y = rw (e, q, r, s, p, y)
+pub told_sheets : (g : Bool → Network → Selector → List Float → List Float → Out) {b : Bool} {M N : Network} {S S' : Selector} {P P' Y Y' : List Float}
+    → b ≡ true → M ≡ N → S ≡ S' → P ≡ P' → Y ≡ Y' → g true M S P Y ≡ g b N S' P' Y'
+told_sheets g e q r p y = rw (e, q, r, p, y)

@@ -4,8 +4,7 @@ use Prim.Native.Nat.{ℕ, ◌/◌, ◌≤◌, ◌<◌}
 use mathlib.Core.Path.{◌≡◌}
 use mathlib.Core.Bool.{Bool, true, false}
 use mathlib.Core.List.{List}
-use lib.ListN.{length, take}
-use lib.Seq.{take-length}
+use lib.ListN.{length}
 use lib.Ieee.{Float}
 use borrow.Author.Tests.{lt-ltb, le-ltb}
 use Rattle.sequence.specs.Lists.{front}
@@ -14,9 +13,9 @@ use Rattle.decoding.specs.Exports.{Out, out}
 use Rattle.capi_contraction.specs.Contraction.{side_out}
 
 module _ (part side : List Float) (bs : List ℕ) (e : part ≡ side) where
-  pub part_written : length part ≤ length bs / 8 → {new : List ℕ} → new ≡ front (double_bytes (take (length part) part)) bs → out (length part) new ≡ side_out true side bs
+  pub part_written : length part ≤ length bs / 8 → {new : List ℕ} → new ≡ front (double_bytes part) bs → out (length part) new ≡ side_out true side bs
   unfolding side_out
-  part_written l p = rw (p, ← e, le-ltb (length bs / 8) (length part) l, take-length)
+  part_written l p = rw (p, ← e, le-ltb (length bs / 8) (length part) l)
 
   pub part_kept : length bs / 8 < length part → out (length part) bs ≡ side_out true side bs
   unfolding side_out

@@ -1,5 +1,5 @@
 // The calls before and after the solve.
-ghost use Rattle.std.specs.Prelude.{◌≡◌, true, ◌&&◌, [], ◌∷◌, length};
+ghost use Rattle.std.specs.Prelude.{◌≡◌, true, ◌&&◌, [], ◌∷◌, length, is_some, IfSome};
 ghost use Rattle.words.specs.Words.{words_of, doubles_of};
 ghost use Rattle.network.specs.Sites.{network_in};
 ghost use Rattle.interface.specs.Codes.{mode_of};
@@ -15,12 +15,19 @@ use asked::mode_asked;
 use contraction::Selector;
 use decoding::Arrays;
 use decoding::answer::{answered, cells_for, pack};
-use decoding::decode::{take_doubles, take_words};
+use decoding::decode::take;
 use interface::Mode;
 use network::Lent;
 use sens::{contraction_first, contraction_third};
 use sequence::{Refusal, count};
-use words::encode_doubles;
+use words::encode;
+
+// An element's entries, of which there are at most the greatest dim.
+#[derive(Drop)]
+struct Entries {
+    rows: [u32; 6544],
+    weights: [f64; 6544],
+}
 
 // How many of the counted words are written.
 fn written_words(mode: Mode, count: usize) -> usize
@@ -29,6 +36,39 @@ fn written_words(mode: Mode, count: usize) -> usize
     match mode {
         Mode::Adjoint => count,
         Mode::Forward | Mode::Auto => 0,
+    }
+}
+
+impl Entries {
+    // No entries yet.
+    fn new() -> Entries {
+        Entries {
+            rows: [0; 6544],
+            weights: [0.0; 6544],
+        }
+    }
+
+    // The selector of the slices' entries.
+    fn selector<'a>(
+        &'a mut self,
+        sign: f64,
+        counts: &'a [u32],
+        rows: &[u8],
+        weights: &[u8],
+    ) -> Option<Selector<'a>>
+        ensures fit { is_some result ≡ entries_fit rows.now weights.now }
+        ensures read { IfSome result (λ s. selector_in s ≡ selector sign counts.now (words_of rows.now) (doubles_of weights.now)) }
+    {
+        let Entries {
+            rows: words,
+            weights: doubles,
+        } = self;
+        Some(Selector {
+            sign,
+            counts,
+            rows: take(rows, words)?,
+            weights: take(weights, doubles)?,
+        })
     }
 }
 
@@ -46,7 +86,7 @@ fn first_out(
 {
     let answer = contraction_first(lent, mode, selector, 1, cells);
     let n = written_words(mode, count(answer));
-    encode_doubles(cells, n, selection);
+    encode(&cells[..n], selection);
     pack(answer)
 }
 
@@ -69,26 +109,18 @@ pub extern "C" fn capi_contraction_first(
     let Some(lent) = arrays.read(wiring, readings, term_index, term_coefficient) else {
         return pack(Err(Refusal::Size));
     };
-    let mut row_array = [0; 6544];
-    let Some(row_count) = take_words(rows, &mut row_array) else {
+    let counts = [entries];
+    let mut listed = Entries::new();
+    let Some(selector) = listed.selector(sign, &counts, rows, weights) else {
         return pack(Err(Refusal::Size));
-    };
-    let mut weight_array = [0.0; 6544];
-    let Some(weight_count) = take_doubles(weights, &mut weight_array) else {
-        return pack(Err(Refusal::Size));
-    };
-    let selector = Selector {
-        sign,
-        counts: &[entries],
-        rows: &row_array[..row_count],
-        weights: &weight_array[..weight_count],
     };
     let mut cells = [0.0; 6544];
     let n = cells_for(selection.len(), 6544);
     first_out(lent, mode_asked(mode), selector, &mut cells[..n], selection)
 }
 
-// After the solve, for a selector of one element.
+// After the solve, for a selector of one element. No call of `fill_sheet`, since nothing is learnt there of a closure that
+// holds a struct of references, as the selector is.
 fn third_out(
     lent: Lent<'_>,
     mode: Mode,
@@ -127,27 +159,18 @@ pub extern "C" fn capi_contraction_third(
     let Some(lent) = arrays.read(wiring, readings, term_index, term_coefficient) else {
         return pack(Err(Refusal::Size));
     };
-    let mut row_array = [0; 6544];
-    let Some(row_count) = take_words(rows, &mut row_array) else {
-        return pack(Err(Refusal::Size));
-    };
-    let mut weight_array = [0.0; 6544];
-    let Some(weight_count) = take_doubles(weights, &mut weight_array) else {
+    let counts = [entries];
+    let mut listed = Entries::new();
+    let Some(selector) = listed.selector(sign, &counts, rows, weights) else {
         return pack(Err(Refusal::Size));
     };
     let mut parameter_array = [0.0; 6544];
-    let Some(parameter_count) = take_doubles(parameter, &mut parameter_array) else {
+    let Some(parameter) = take(parameter, &mut parameter_array) else {
         return pack(Err(Refusal::Size));
     };
     let mut solved_array = [0.0; 6544];
-    let Some(solved_count) = take_doubles(solved, &mut solved_array) else {
+    let Some(solved) = take(solved, &mut solved_array) else {
         return pack(Err(Refusal::Size));
-    };
-    let selector = Selector {
-        sign,
-        counts: &[entries],
-        rows: &row_array[..row_count],
-        weights: &weight_array[..weight_count],
     };
     let mut cells = [0.0; 1];
     let n = cells_for(sheet.len(), 1);
@@ -155,8 +178,8 @@ pub extern "C" fn capi_contraction_third(
         lent,
         mode_asked(mode),
         selector,
-        &parameter_array[..parameter_count],
-        &solved_array[..solved_count],
+        parameter,
+        solved,
         &mut cells[..n],
         sheet,
     )

@@ -8,10 +8,10 @@ ghost use Rattle.sens.specs.Calls.{side_of};
 ghost use Rattle.capi_contraction.specs.Contraction.{sheets_fit, side_out};
 
 use asked::mode_asked;
-use decoding::decode::take_doubles;
+use decoding::decode::take;
 use interface::Mode;
 use sens::right_side;
-use words::encode_doubles;
+use words::encode;
 
 // The part's length, and its bytes where they have room.
 fn side_out<'a>(
@@ -26,7 +26,7 @@ fn side_out<'a>(
     let part = right_side(mode, count, parameter, selection);
     let n = part.len();
     if n <= sheet.len() / 8 {
-        encode_doubles(part, n, sheet);
+        encode(part, sheet);
     }
     n
 }
@@ -42,18 +42,12 @@ pub extern "C" fn capi_right_side(
     ensures { out result sheet.new ≡ side_out (sheets_fit parameter.now selection.now) (side_of (mode_asked (mode_of mode)) count (doubles_of parameter.now) (doubles_of selection.now)) sheet.old }
 {
     let mut parameter_array = [0.0; 6544];
-    let Some(parameter_count) = take_doubles(parameter, &mut parameter_array) else {
+    let Some(parameter) = take(parameter, &mut parameter_array) else {
         return 0;
     };
     let mut selection_array = [0.0; 6544];
-    let Some(selection_count) = take_doubles(selection, &mut selection_array) else {
+    let Some(selection) = take(selection, &mut selection_array) else {
         return 0;
     };
-    side_out(
-        mode_asked(mode),
-        count,
-        &parameter_array[..parameter_count],
-        &selection_array[..selection_count],
-        sheet,
-    )
+    side_out(mode_asked(mode), count, parameter, selection, sheet)
 }

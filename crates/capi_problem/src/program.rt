@@ -13,14 +13,14 @@ ghost use Rattle.capi_problem.specs.Cells.{ProgramCells, ListFits, SidesFit};
 
 use crate::Sides;
 use decoding::Arrays;
-use decoding::answer::{list_room, listed};
+use decoding::answer::{cells_for, list_room, listed};
 use network::layout::counts;
 use network::{Lent, Plan};
-use opf_layout::{OpfLayout, active_of};
+use opf_layout::OpfLayout;
 use opf_problem::{Written, assemble_opf};
 use opf_sides::cone_count;
 use sequence::Refusal;
-use words::{encode_doubles, encode_words};
+use words::encode;
 
 // Number, A's count and P's count in one word.
 fn pack_both(answer: Result<Written, Refusal>) -> u64
@@ -74,7 +74,7 @@ fn side_lengths(wiring: &[u32], readings: &[f64]) -> Sides
         wiring,
         readings,
     };
-    let lay = OpfLayout::dc(c, active_of(&plan));
+    let lay = OpfLayout::of(&plan);
     Sides {
         q: lay.nvar,
         b: lay.ncon,
@@ -121,12 +121,9 @@ fn sides_back(
     requires { SidesFit k qs.now bs.now ks.now q.old b.old cones.old }
     ensures { (q.new ≡ front (double_bytes (take k.q qs.now)) q.old) × (b.new ≡ front (double_bytes (take k.b bs.now)) b.old) × (cones.new ≡ front (word_bytes (take k.cones ks.now)) cones.old) }
 {
-    let x = k.q;
-    encode_doubles(qs, x, q);
-    let y = k.b;
-    encode_doubles(bs, y, b);
-    let z = k.cones;
-    encode_words(ks, z, cones);
+    encode(&qs[..k.q], q);
+    encode(&bs[..k.b], b);
+    encode(&ks[..k.cones], cones);
 }
 
 // Every result of an assembled program as bytes.
@@ -224,9 +221,9 @@ fn assemble_out(
     let mut av = [0.0; 12304];
     let n = list_room(12304, a_rows.len(), a_cols.len(), a_values.len());
     let mut qs = [0.0; 1536];
-    let x = (q.len() / 8).min(1536);
+    let x = cells_for(q.len(), 1536);
     let mut bs = [0.0; 5072];
-    let y = (b.len() / 8).min(5072);
+    let y = cells_for(b.len(), 5072);
     let mut ks = [0u32; 4];
     let z = (cones.len() / 4).min(4);
     assemble_cells(

@@ -8,7 +8,7 @@ ghost use Rattle.decoding.specs.Exports.{out, whole, all_whole, decoded, filled_
 ghost use Rattle.problem.specs.Calls.{nodal_call, read_call};
 
 use decoding::answer::pack;
-use decoding::decode::take_doubles;
+use decoding::decode::take;
 use decoding::fill::{fill_from_solution, fill_sheet};
 use problem::{nodal_marginal_values, read_dc_solution};
 use sequence::Refusal;
@@ -51,15 +51,13 @@ pub extern "C" fn capi_read_dc_solution(
     ensures { out result sheet.new ≡ filled_out (all_whole wiring.entry readings.entry term_index.entry term_coefficient.entry && (whole 8 x.now && whole 8 z.now)) (read_call (decoded wiring.entry readings.entry term_index.entry term_coefficient.entry) (doubles_of x.now) (doubles_of z.now) (of_bits binary64 objective) (doubles_of sheet.old)) sheet.old }
 {
     let mut primal = [0.0; 1536];
-    let Some(count) = take_doubles(x, &mut primal) else {
+    let Some(columns) = take(x, &mut primal) else {
         return pack(Err(Refusal::Size));
     };
-    let columns = &primal[..count];
     let mut dual = [0.0; 5072];
-    let Some(count) = take_doubles(z, &mut dual) else {
+    let Some(rows) = take(z, &mut dual) else {
         return pack(Err(Refusal::Size));
     };
-    let rows = &dual[..count];
     fill_sheet::<6017, _>(
         wiring,
         readings,

@@ -19,7 +19,7 @@ use sens::{contraction_first, contraction_third, right_side};
 use sens_operands::operand_selector;
 use sequence::{Answer, number};
 
-// The number; on 0 the count goes to its word.
+// The number, by which other languages know an answer; on 0 the count goes to its word.
 fn note(answer: Answer, count: &mut usize) -> u32
     ensures { (result ≡ number_of answer) × (count.new ≡ noted (number_of answer) (count_of answer) count.old) }
 {

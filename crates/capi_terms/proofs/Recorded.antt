@@ -15,7 +15,8 @@ use Rattle.terms.proofs.Apart.{indexes_length}
 use Rattle.decoding.specs.Exports.{whole}
 use Rattle.decoding.specs.Decoding.{fits}
 use Rattle.decoding.proofs.Decoded.{contrary, fits_of, whole_of, wiring_few, readings_few, indexes_few}
-use Rattle.capi_terms.specs.Records.{term_at, terms_of}
+use Rattle.terms.specs.Records.{term_at}
+use Rattle.capi_terms.specs.Records.{terms_of}
 
 module _ (w r t : List ℕ) where
   abbrev pub network : Network

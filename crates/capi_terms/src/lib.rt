@@ -1,43 +1,18 @@
 // `evaluate` over records as an extern "C" function on numbers and byte slices: the terms are one slice, twelve bytes each.
 #![tactic(auto)]
 
-ghost use Rattle.std.specs.Prelude.{◌≡◌, true, ◌&&◌, ◌+◌, ◌≤◌, length, is_some, IfSome};
+ghost use Rattle.std.specs.Prelude.{◌≡◌, true, ◌&&◌, length};
 ghost use Rattle.words.specs.Words.{doubles_of};
 ghost use Rattle.model.specs.Calls.{evaluate_call};
 ghost use Rattle.terms.specs.Terms.{network_of};
 ghost use Rattle.decoding.specs.Exports.{out, whole, filled_out};
-ghost use Rattle.decoding.specs.Decoding.{fits, Held, Cells};
-ghost use Rattle.capi_terms.specs.Records.{term_from, terms_of, recorded, whole_records};
+ghost use Rattle.decoding.specs.Decoding.{Cells};
+ghost use Rattle.capi_terms.specs.Records.{recorded, whole_records};
 
 use decoding::answer::{answered, cells_for, pack};
-use decoding::decode::{count_within, take_doubles, take_words};
+use decoding::decode::take;
 use sequence::Refusal;
 use terms::{Term, evaluate};
-use words::{number, word32, word64};
-
-// The record of twelve bytes.
-fn term_from(b: &[u8], at: usize) -> Term
-    requires { at + 12 ≤ length b.now }
-    ensures { result ≡ term_from b.now at }
-{
-    Term {
-        index: word32(b, at),
-        coefficient: number(word64(b, at + 4)),
-    }
-}
-
-// The records of a slice, where it is whole and the array holds them.
-fn take_terms(b: &[u8], into: &mut [Term]) -> Option<usize>
-    ensures fits { is_some result ≡ fits 12 b.now (length into.old) }
-    ensures held { IfSome result (λ n. Held (terms_of b.now) n into.new) }
-{
-    let count = count_within(b, 12, into.len())?;
-    // Each term is made of its index: twelve bytes stand at 12 i.
-    for i in 0..count {
-        into[i] = term_from(b, 12 * i);
-    }
-    Some(count)
-}
 
 // The decoded row's value, and what it leaves back into bytes.
 fn evaluate_out(
@@ -70,11 +45,11 @@ pub extern "C" fn capi_evaluate_terms(
     ensures { out result sheet.new ≡ filled_out (whole_records wiring.entry readings.entry terms.entry && (whole 8 f.now && whole 8 pg.now)) (evaluate_call (recorded wiring.entry readings.entry terms.entry) row (doubles_of f.now) (doubles_of pg.now) (doubles_of sheet.old)) sheet.old }
 {
     let mut w = [0; 3033];
-    let Some(a) = take_words(wiring, &mut w) else {
+    let Some(wiring) = take(wiring, &mut w) else {
         return pack(Err(Refusal::Size));
     };
     let mut r = [0.0; 8065];
-    let Some(b) = take_doubles(readings, &mut r) else {
+    let Some(readings) = take(readings, &mut r) else {
         return pack(Err(Refusal::Size));
     };
     let none = Term {
@@ -82,26 +57,26 @@ pub extern "C" fn capi_evaluate_terms(
         coefficient: 0.0,
     };
     let mut ts = [none; 1024];
-    let Some(n) = take_terms(terms, &mut ts) else {
+    let Some(terms) = take(terms, &mut ts) else {
         return pack(Err(Refusal::Size));
     };
     let mut fs = [0.0; 512];
-    let Some(flows) = take_doubles(f, &mut fs) else {
+    let Some(flows) = take(f, &mut fs) else {
         return pack(Err(Refusal::Size));
     };
     let mut ps = [0.0; 256];
-    let Some(powers) = take_doubles(pg, &mut ps) else {
+    let Some(powers) = take(pg, &mut ps) else {
         return pack(Err(Refusal::Size));
     };
     let mut cells = [0.0; 1];
     let k = cells_for(sheet.len(), 1);
     evaluate_out(
-        &w[..a],
-        &r[..b],
-        &ts[..n],
+        wiring,
+        readings,
+        terms,
         row,
-        &fs[..flows],
-        &ps[..powers],
+        flows,
+        powers,
         &mut cells[..k],
         sheet,
     )

@@ -26,7 +26,8 @@ use Rattle.solution_check.specs.Tests.{solution_long, solution_holds, solution_t
 use Rattle.kkt.specs.Slots.{Rule}
 use Rattle.kkt.specs.Matrix.{kkt_matrix_list}
 use Rattle.kkt_laws.proofs.Bound.{list_length}
-use Rattle.job_book.specs.Book.{Change, Given, Words, words, outcome, outcome_by_number, made_at, own_tests, kind_of, index_of, value_of, counts_in, network_of, matrix_of, changed, number_of, step}
+use Rattle.job_book.specs.declared.Change.{Change}
+use Rattle.job_book.specs.Book.{Given, Words, words, outcome, outcome_by_number, made_at, own_tests, counts_in, network_of, matrix_of, changed, number_of, step}
 
 -- ---- what the laid list makes of a change
 
@@ -113,7 +114,7 @@ module _ (G : Given) (rule : Rule) (W : Words) (h : Change) where
   after = test 7 (short_list (matrix_of G rule (changed G W.readings h)) W.rows W.cols W.values) ∷ []
 
   abbrev own : List Test
-  own = own_tests (counts_in G) (kind_of h) (index_of h) (value_of h)
+  own = own_tests (counts_in G) h.kind h.index h.value
 
   abbrev none : Words → Change → List Test
   none U g = []

@@ -8,7 +8,7 @@ ghost use Rattle.kkt_index.specs.Index.{start_in, Narrow};
 ghost use Rattle.change_table.specs.Table.{cells_of, cells_at, among, diagonal, against, both_ways, balance_cells};
 
 use kkt_index::{Block, KktIdx};
-use network::layout::{wide, word};
+use network::layout::wide;
 use network::{Field, Part};
 
 mod places;
@@ -50,21 +50,21 @@ fn is_among(x: KktIdx, cells: &[Cell], row: u32, col: u32) -> bool
 impl Places<'_> {
     // Row b+e against the angles of branch e's ends.
     fn against(&self, b: Block, e: usize) -> [Cell; 2]
-        requires { e < self.now.counts.branches }
-        ensures { result ≡ against self.now.counts self.now.wiring.now b e }
+        requires { e < self.now.wiring.counts.branches }
+        ensures { result ≡ against self.now.wiring.counts self.now.wiring.words.now b e }
     {
-        let from = word(self.wiring, self.counts, Part::BrFrom, e);
-        let to = word(self.wiring, self.counts, Part::BrTo, e);
+        let from = self.wiring.word(Part::BrFrom, e);
+        let to = self.wiring.word(Part::BrTo, e);
         [((b, e), (Block::Va, from)), ((b, e), (Block::Va, to))]
     }
 
     // The same, and the angles' rows against column b+e.
     fn both_ways(&self, b: Block, e: usize) -> [Cell; 4]
-        requires { e < self.now.counts.branches }
-        ensures { result ≡ both_ways self.now.counts self.now.wiring.now b e }
+        requires { e < self.now.wiring.counts.branches }
+        ensures { result ≡ both_ways self.now.wiring.counts self.now.wiring.words.now b e }
     {
-        let from = word(self.wiring, self.counts, Part::BrFrom, e);
-        let to = word(self.wiring, self.counts, Part::BrTo, e);
+        let from = self.wiring.word(Part::BrFrom, e);
+        let to = self.wiring.word(Part::BrTo, e);
         [
             ((b, e), (Block::Va, from)),
             ((b, e), (Block::Va, to)),
@@ -75,11 +75,11 @@ impl Places<'_> {
 
     // The cells where the balances of branch e's ends meet their angles.
     fn balance_cells(&self, e: usize) -> [Cell; 8]
-        requires { e < self.now.counts.branches }
-        ensures { result ≡ balance_cells self.now.counts self.now.wiring.now e }
+        requires { e < self.now.wiring.counts.branches }
+        ensures { result ≡ balance_cells self.now.wiring.counts self.now.wiring.words.now e }
     {
-        let from = word(self.wiring, self.counts, Part::BrFrom, e);
-        let to = word(self.wiring, self.counts, Part::BrTo, e);
+        let from = self.wiring.word(Part::BrFrom, e);
+        let to = self.wiring.word(Part::BrTo, e);
         [
             ((Block::NuBal, from), (Block::Va, from)),
             ((Block::NuBal, from), (Block::Va, to)),
@@ -94,8 +94,8 @@ impl Places<'_> {
 
     // Whether a triplet is in a cell of a branch's susceptance.
     fn is_of_susceptance(&self, e: usize, row: u32, col: u32) -> bool
-        requires { e < self.now.counts.branches }
-        ensures { result ≡ among (row, col) (cells_at (start_in self.now.index) (cells_of self.now.counts self.now.wiring.now Susceptance e)) }
+        requires { e < self.now.wiring.counts.branches }
+        ensures { result ≡ among (row, col) (cells_at (start_in self.now.index) (cells_of self.now.wiring.counts self.now.wiring.words.now Susceptance e)) }
     {
         is_among(self.index, &self.both_ways(Block::NuFlow, e), row, col)
             || is_among(self.index, &self.balance_cells(e), row, col)
@@ -103,8 +103,8 @@ impl Places<'_> {
 
     // Whether a triplet is in a cell of a branch's switch.
     fn is_of_sw(&self, e: usize, row: u32, col: u32) -> bool
-        requires { e < self.now.counts.branches }
-        ensures { result ≡ among (row, col) (cells_at (start_in self.now.index) (cells_of self.now.counts self.now.wiring.now Sw e)) }
+        requires { e < self.now.wiring.counts.branches }
+        ensures { result ≡ among (row, col) (cells_at (start_in self.now.index) (cells_of self.now.wiring.counts self.now.wiring.words.now Sw e)) }
     {
         is_among(self.index, &self.both_ways(Block::GammaLb, e), row, col)
             || is_among(self.index, &self.both_ways(Block::GammaUb, e), row, col)
@@ -120,8 +120,8 @@ impl Places<'_> {
 
     // Whether a triplet is in a cell of an angle limit, whose dual is b+e.
     fn is_of_angle(&self, b: Block, e: usize, row: u32, col: u32) -> bool
-        requires { e < self.now.counts.branches }
-        ensures { result ≡ among (row, col) (cells_at (start_in self.now.index) (against self.now.counts self.now.wiring.now b e ++ diagonal b e)) }
+        requires { e < self.now.wiring.counts.branches }
+        ensures { result ≡ among (row, col) (cells_at (start_in self.now.index) (against self.now.wiring.counts self.now.wiring.words.now b e ++ diagonal b e)) }
     {
         is_among(self.index, &self.against(b, e), row, col)
             || is_among(self.index, &[diagonal(b, e)], row, col)
@@ -130,8 +130,8 @@ impl Places<'_> {
     // Whether a triplet of this row and column is in a cell that a change of a reading may move. The fields' arms are a
     // table of places: nothing is compared with the field.
     pub fn is_named(&self, f: Field, i: usize, row: u32, col: u32) -> bool
-        requires { i < size self.now.counts f }
-        ensures { result ≡ among (row, col) (cells_at (start_in self.now.index) (cells_of self.now.counts self.now.wiring.now f i)) }
+        requires { i < size self.now.wiring.counts f }
+        ensures { result ≡ among (row, col) (cells_at (start_in self.now.index) (cells_of self.now.wiring.counts self.now.wiring.words.now f i)) }
     {
         match f {
             Field::Demand => is_among(

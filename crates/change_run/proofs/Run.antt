@@ -1,18 +1,38 @@
--- A run of changes by its last one: what it has left and written so far. Main results: `after_more`, `lines_more`; `begin`, `more`; `run_uneven`, `run_short`, `run_done`. Assumes nothing.
+-- A run of changes by its last one: what it has left and written so far. Main results: `after_more`, `lines_more`; `begin`, `more`; `change_is`; `run_uneven`, `run_short`, `run_done`. Assumes nothing.
 use mathlib.Core.Path.{◌≡◌, refl, sym, ap, ◌∙◌}
 use mathlib.Core.Logic.{◌⊎◌, inl, inr}
 use mathlib.Core.List.{List, [], ◌∷◌, ◌++◌, map}
-use Prim.Native.Nat.{ℕ, suc, ◌+◌, ◌/◌, ◌%◌, ◌≤◌, ◌<◌}
+use Prim.Native.Nat.{ℕ, zero, suc, ◌+◌, ◌*◌, ◌/◌, ◌%◌, ◌≤◌, ◌<◌}
 use native.Mathlib.Numerals.{add-one}
 use native.Mathlib.Omega.{arith}
-use lib.ListN.{length, set, length-set, length-map}
+use lib.ListN.{length, get_or, drop, set, length-set, length-map}
 use borrow.Author.Tests.{eq-eqb, ne_eqb, lt-ltb, le-ltb}
+use Rattle.std.specs.Simd.{first_chunks}
+use Rattle.std.proofs.lemmas.List.{get_or-take, get_or-drop}
 use Rattle.sequence.specs.Lists.{made, front}
 use Rattle.sequence.specs.Answers.{Test, first_of}
 use Rattle.sequence.proofs.Lists.{made_length}
 use Rattle.sequence.proofs.Fronts.{front_more}
 use Rattle.kkt.specs.Slots.{Rule}
-use Rattle.job_book.specs.Book.{Change, Given, Words, Line, line, Outcome, outcome, step, lines, words_after, change_at, numbers_of, counts_of_lines, ran, run_number, run_call}
+use Rattle.job_book.specs.declared.Change.{Change}
+use Rattle.job_book.specs.Book.{Given, Words, Line, line, Outcome, outcome, step, lines, words_after, change, change_at, numbers_of, counts_of_lines, ran, run_number, run_call}
+
+-- ---- a slice by three words
+
+word_in : (k : ℕ) (ws : List ℕ) (i j : ℕ) → i < k → j < 3 → get_or (get_or (first_chunks 3 k ws) i []) j 0 ≡ get_or ws (3 * i + j) 0
+word_in zero ws i j h l = absurd (omega arith)
+word_in (suc k) ws zero j h l =
+    let e : j ≡ 3 * 0 + j = omega arith in
+    get_or-take 3 ws j 0 l ∙ ap (λ (m : ℕ). get_or ws m 0) e
+word_in (suc k) ws (suc i) j h l =
+    let e : 3 + (3 * i + j) ≡ 3 * suc i + j = omega arith in
+    word_in k (drop 3 ws) i j (omega arith) l ∙ get_or-drop 3 ws (3 * i + j) 0 ∙ ap (λ (m : ℕ). get_or ws m 0) e
+
+pub change_is : (ws : List ℕ) (i : ℕ) {whole : List (List ℕ)} → whole ≡ first_chunks 3 (length ws / 3) ws → i < length ws / 3
+    → change (get_or (get_or whole i []) 0 0) (get_or (get_or whole i []) 1 0) (get_or (get_or whole i []) 2 0) ≡ change_at ws i
+change_is ws i {whole} e h =
+    let z : 3 * i + 0 ≡ 3 * i = omega arith in
+    rw (e, word_in (length ws / 3) ws i 0 h (omega arith), word_in (length ws / 3) ws i 1 h (omega arith), word_in (length ws / 3) ws i 2 h (omega arith), z) refl
 
 module _ (G : Given) (rule : Rule) (further : Words → Change → List Test) where
   abbrev after : Words → List Change → Words

@@ -6,6 +6,7 @@ ghost use Rattle.kkt.specs.Slots.Rule.{first_place};
 ghost use Rattle.job_book.specs.Book.{given, words, ran_of, run_call};
 
 use change::change;
+use job_book::Change;
 use sequence::{Answer, Refusal, count, number};
 
 // A list of changes, three words each, one after the other: each one's number and count go to the two
@@ -26,14 +27,15 @@ pub fn run_changes(
 ) -> Answer
     ensures { ran_of result (words readings.new rows.new cols.new values.new) numbers.new counted.new ≡ run_call (given wiring.now term_index.now term_coefficient.now solution.now) first_place (λ W h. []) (words readings.old rows.old cols.old values.old) changes.now numbers.old counted.old }
 {
-    if changes.len() % 3 != 0 {
+    let (whole, rest) = changes.as_chunks::<3>();
+    if !rest.is_empty() {
         return Err(Refusal::Size);
     }
-    let n = changes.len() / 3;
+    let n = whole.len();
     if numbers.len() < n || counted.len() < n {
         return Err(Refusal::Short);
     }
-    for i in 0..n {
+    for (i, [head, low, high]) in whole.iter().enumerate() {
         let answer = change(
             wiring,
             readings,
@@ -43,9 +45,7 @@ pub fn run_changes(
             rows,
             cols,
             values,
-            changes[3 * i],
-            changes[3 * i + 1],
-            changes[3 * i + 2],
+            Change::of(*head, *low, *high),
         );
         numbers[i] = number(answer);
         counted[i] = count(answer) as u32;

@@ -1,20 +1,23 @@
 -- Columns lie within their sheet, and an element's entries within the slices.
--- Main results: `inside`, `column_inside`, `column_long`, `part_stored`, `front_whole`, `starts_none`, `starts_more`, `entered_run`, `contracted_long`, `selection_long`. Assumes nothing.
-use mathlib.Core.Path.{◌≡◌, refl, sym, ◌∙◌}
-use mathlib.Core.List.{List, ◌++◌, append-nil, append_assoc}
+-- Main results: `inside`, `column_inside`, `column_long`, `part_stored`, `front_whole`, `starts_none`, `starts_more`, `entered_run`, `row_is`, `column_is`, `contracted_long`, `selection_long`. Assumes nothing.
+use mathlib.Core.Path.{◌≡◌, refl, sym, ap, ◌∙◌}
+use mathlib.Core.List.{List, [], ◌++◌, append-nil, append_assoc}
 use Prim.Native.Nat.{ℕ, zero, suc, ◌+◌, ◌-◌, ◌*◌, ◌≤◌, ◌<◌}
-use native.Mathlib.Nat.{zero-mul, suc-mul, mul_comm, mul-le-mul_right, le_trans}
+use native.Mathlib.Nat.{zero-add, zero-mul, suc-mul, mul_comm, mul-le-mul_right, le_trans}
 use native.Mathlib.Numerals.{add-one}
 use native.Mathlib.Omega.{arith}
-use lib.ListN.{length, take, drop, replicate, length-append, length-take, length-drop}
+use lib.ListN.{length, get_or, take, drop, replicate, length-append, length-take, length-drop}
 use lib.Seq.{sets, sets-eq, drop-length, drop-drop}
-use Rattle.std.proofs.lemmas.List.{length-replicate, replicate-append-replicate, replicate_more}
+use Rattle.std.proofs.lemmas.List.{get_or-take, get_or-drop, length-replicate, replicate-append-replicate, replicate_more}
 use borrow.Rule.Slice.PartMut.{put_mid}
-use lib.Ieee.{Float}
+use lib.Ieee.{Float, nan, binary64, mul}
+use Rattle.float64.specs.Values.{nought}
+use Rattle.model.specs.Quantities.{term_sum}
 use Rattle.sequence.specs.Lists.{before, each, made, front}
-use Rattle.sequence.proofs.Lists.{before_more, before_within, made_length}
+use Rattle.sequence.proofs.Lists.{before_more, before_within, made_length, made_same, turns_same}
 use Rattle.interface.specs.declared.Mode.{Mode}
-use Rattle.contraction.specs.Contraction.{Selector, elements, entries_at, entry_start, selection_column, selection_sheet, column, contracted_row, contracted, Run, Entered}
+use Rattle.interface.specs.declared.Mode.TheVariants.{Forward}
+use Rattle.contraction.specs.Contraction.{Selector, elements, entries_at, entry_start, selection_word, selection_column, selection_sheet, column, forward_word, contracted_row, contracted, Run, Entered}
 
 -- one of n columns, or of n rows of out
 pub inside : (dim c n size : ℕ) → c < n → n * dim ≤ size → c * dim + dim ≤ size
@@ -74,9 +77,6 @@ alike_front v n k out h e =
 
 -- ---- entries
 
-pub run_of : {rows : List ℕ} {weights : List Float} {from n dim size : ℕ} → size ≡ dim → Run rows weights from n dim → Run rows weights from n size
-run_of e r = rw e r
-
 pub starts_none : (S : Selector) → 0 ≡ entry_start S 0
 unfolding entry_start before
 starts_none S = refl
@@ -91,6 +91,45 @@ unfolding entry_start
 entered_run {S} {dim} h o l {from} {n} p q =
     let i : from + n ≤ length S.rows = omega (arith, before_within (entries_at S) o (elements S) l, h.sum) in
     record { in_rows = i; in_weights = omega (arith, h.long); below = λ t k. h.below (from + t) (omega arith) }
+
+-- ---- an element's entries cut out of the slices
+
+pub below_of : {rows : List ℕ} {weights : List Float} {n dim : ℕ} → Run rows weights 0 n dim → (t : ℕ) → t < n → get_or rows t 0 < dim
+below_of r t h = rw zero-add at (r.below t h)
+
+pub cut_long : {A : Type 0} (from n : ℕ) (xs : List A) → from + n ≤ length xs → length (take n (drop from xs)) ≡ n
+cut_long from n xs h = simp (length-take, length-drop) (omega arith)
+
+cut_at : {A : Type 0} (from n t : ℕ) (xs : List A) (d : A) → t < n → get_or (take n (drop from xs)) (0 + t) d ≡ get_or xs (from + t) d
+cut_at from n t xs d h = rw (zero-add, get_or-take n (drop from xs) t d h, get_or-drop)
+
+forward_cut : (sign : Float) {rows : List ℕ} {weights : List Float} {from n dim : ℕ} (solved : List Float) → Run rows weights from n dim
+    → forward_word sign (take n (drop from rows)) (take n (drop from weights)) 0 (length (take n (drop from rows))) solved ≡ forward_word sign rows weights from n solved
+unfolding forward_word term_sum
+forward_cut sign {rows} {weights} {from} {n} solved r =
+    rw (cut_long from n rows r.in_rows) (ap (λ (x : Float). mul binary64 sign x) (turns_same _ _ nought n (λ t h x. rw (cut_at from n t rows 0 h, cut_at from n t weights nan h))))
+
+selection_cut : {rows : List ℕ} {weights : List Float} {from n dim : ℕ} (r : ℕ) → Run rows weights from n dim
+    → selection_word (take n (drop from rows)) (take n (drop from weights)) 0 (length (take n (drop from rows))) r ≡ selection_word rows weights from n r
+unfolding selection_word
+selection_cut {rows} {weights} {from} {n} r h =
+    rw (cut_long from n rows h.in_rows) (turns_same _ _ nought n (λ t i x. rw (cut_at from n t rows 0 i, cut_at from n t weights nan i)))
+
+-- the words of element o, by the terms that are cut out for it
+pub row_is : (S : Selector) (dim columns : ℕ) (solved : List Float) (o : ℕ) {from d k : ℕ} {rows : List ℕ} {weights new : List Float} → Entered S dim → o < elements S
+    → from ≡ entry_start S o → d ≡ dim → k ≡ columns → rows ≡ take (entries_at S o) (drop from S.rows) → weights ≡ take (entries_at S o) (drop from S.weights)
+    → new ≡ made (λ c. forward_word S.sign rows weights 0 (length rows) (column d solved c)) k → new ≡ contracted_row Forward S dim columns [] solved o
+unfolding contracted_row
+row_is S dim columns solved o h l p q k r w e =
+    e ∙ rw (r, w, p, q, k) (made_same _ _ columns (λ c i. forward_cut S.sign (column dim solved c) (entered_run h o l refl refl)))
+
+-- and likewise its column of the selection sheet
+pub column_is : (S : Selector) (dim o : ℕ) {from k : ℕ} {rows : List ℕ} {weights new : List Float} → Entered S dim → o < elements S
+    → from ≡ entry_start S o → k ≡ dim → rows ≡ take (entries_at S o) (drop from S.rows) → weights ≡ take (entries_at S o) (drop from S.weights)
+    → new ≡ made (selection_word rows weights 0 (length rows)) k → new ≡ selection_column S dim o
+unfolding selection_column
+column_is S dim o h l p k r w e =
+    e ∙ rw (r, w, p, k) (made_same _ _ dim (λ c i. selection_cut c (entered_run h o l refl refl)))
 
 -- ---- how many words there are
 

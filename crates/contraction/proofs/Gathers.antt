@@ -3,10 +3,13 @@
 use mathlib.Core.Path.{◌≡◌, refl, sym, ◌∙◌}
 use mathlib.Core.Bool.{Bool, true, false, not, not-not}
 use mathlib.Core.List.{List}
-use Prim.Native.Nat.{ℕ, zero, suc, ◌+◌, ◌<◌}
+use Prim.Native.Nat.{ℕ, zero, suc, ◌+◌, ◌≤◌, ◌<◌}
 use native.Mathlib.Nat.{not-suc-le-zero, zero-add, add-zero}
 use native.Mathlib.Omega.{arith}
-use lib.ListN.{length, get_or, set, length-set}
+use lib.ListN.{length, get_or, set, take, length-set}
+use Rattle.std.proofs.lemmas.List.{get_or-take, length-take-le}
+use Rattle.std.specs.Prelude.{Some}
+use Rattle.std.specs.Option.{ForSome}
 use lib.Seq.{get_or-set_same, get_or-set_other}
 use lib.Ieee.{Float, nan, binary64, add, mul, eq, ne}
 use Rattle.float64.specs.Values.{nought}
@@ -27,6 +30,26 @@ none rows values parameter =
       run = record { in_rows = omega arith; in_weights = omega arith; below = λ t h. absurd (not-suc-le-zero h) };
       sum = λ solved. refl;
     }
+
+-- a value that an option holds
+pub of_some : {A : Type 0} (P : A → Type 0) {a : A} → P a → ForSome (Some a) P
+of_some P {a} p x e = let q : a ≡ x = cc in rw q at p
+
+-- the entries in front of two slices
+pub in_front : {rows : List ℕ} {values : List Float} {n dim : ℕ} {parameter : List Float} → Gathers rows values n dim parameter
+    → Gathers (take n rows) (take n values) (length (take n rows)) dim parameter
+unfolding term_sum
+in_front {rows} {values} {n} g =
+    let a : n ≤ length rows = omega (arith, g.run.in_rows) in
+    let e = length-take-le n rows a in
+    rw e (record {
+      run = record {
+        in_rows = rw e (omega arith);
+        in_weights = rw (length-take-le n values (omega (arith, g.run.in_weights))) (omega arith);
+        below = λ t h. rw (get_or-take n rows (0 + t) 0 (omega arith)) (g.run.below t h);
+      };
+      sum = λ solved. turns_same _ _ nought n (λ t h x. rw (get_or-take n rows (0 + t) 0 (omega arith), get_or-take n values (0 + t) nan (omega arith))) ∙ g.sum solved;
+    })
 
 pub skip : {rows : List ℕ} {values : List Float} {n r : ℕ} {parameter : List Float} → Gathers rows values n r parameter
     → ne (get_or parameter r nan) nought ≡ false → Gathers rows values n (r + 1) parameter

@@ -2,7 +2,7 @@
 use mathlib.Core.Path.{◌≡◌, refl, sym, ap, ◌∙◌}
 use mathlib.Core.Bool.{Bool, true, false, cond, ◌&&◌}
 use mathlib.Core.List.{List, [], ◌∷◌, ◌++◌}
-use Prim.Native.Nat.{ℕ, ◌/◌, ◌≤◌, ◌<◌}
+use Prim.Native.Nat.{ℕ, ◌/◌, ◌≤◌, ◌<◌, min}
 use native.Mathlib.Omega.{arith}
 use native.Mathlib.Decide.{ℕ_discrete, dec_lt}
 use lib.Dec.{T, eqb, ltb, leb}
@@ -174,6 +174,10 @@ cut_count n xs h = sym (length-take-le n xs h)
 
 pub cut_cells : {most bytes n : ℕ} (xs : List Float) → n ≤ length xs → Cells most bytes n → Cells most bytes (length (take n xs))
 cut_cells {n = n} xs h r = rw (length-take-le n xs h) r
+
+-- how many cells there are is the least of the two
+pub cells_are : {most bytes n : ℕ} → Cells most bytes n → n ≡ min most (bytes / 8)
+cells_are {most} {bytes} r = omega (arith, r.below, r.within, r.enough (min most (bytes / 8)) (omega arith) (omega arith))
 
 pub told : {A : Type 0} (f : Bool → Network → A) {b : Bool} {M N : Network} → b ≡ true → M ≡ N → f true M ≡ f b N
 told f {N = N} e q = ap (f true) q ∙ ap (λ (t : Bool). f t N) (sym e)

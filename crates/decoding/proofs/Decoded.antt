@@ -6,15 +6,13 @@ use Prim.Native.Nat.{ℕ, ◌/◌, ◌≤◌}
 use native.Mathlib.Omega.{arith}
 use lib.ListN.{length}
 use borrow.Author.Tests.{le-leb}
-use Rattle.sequence.specs.Lists.{front, made}
 use Rattle.sequence.proofs.Lists.{and_left, and_right, made_length, never}
 use Rattle.words.specs.Words.{word_at, double_at, words_of, doubles_of}
-use Rattle.sequence.proofs.Fronts.{take_made}
 use Rattle.network.specs.Numbers.{Network, sizes_hold}
 use Rattle.network.proofs.Tests.{sized_few, sized_wiring, sized_readings, sized_indexes, sized_coefficients}
 use Rattle.std.specs.Prelude.{Option, None}
 use Rattle.decoding.specs.Exports.{whole}
-use Rattle.decoding.specs.Decoding.{fits, Held, Read}
+use Rattle.decoding.specs.Decoding.{fits, Read}
 
 pub contrary : (p q : Bool) → (p ≡ true → q ≡ true) → q ≡ false → p ≡ false
 contrary true q f e = never (sym e ∙ f refl)
@@ -24,9 +22,6 @@ contrary false q f e = refl
 
 pub fits_of : (k : ℕ) (b : List ℕ) (most : ℕ) → whole k b ≡ true → length b / k ≤ most → fits k b most ≡ true
 fits_of k b most h l = rw (h, le-leb (length b / k) most l)
-
-pub held : {A : Type 0} (f : ℕ → A) (n : ℕ) (old : List A) {new : List A} → n ≤ length old → length new ≡ length old → new ≡ front (made f n) old → Held (made f n) n new
-held f n old l q e = record { room = omega arith; front = rw e (take_made f n old) }
 
 -- what an answered flag says of the slice
 pub whole_of : (k : ℕ) (b : List ℕ) (most : ℕ) → fits k b most ≡ true → whole k b ≡ true

@@ -18,6 +18,27 @@ use Rattle.decoding.specs.Decoding.{Cells}
 use Rattle.decoding.specs.Filling.{Post, post_at, Exported, refused, made, ExportedAt, unread, read}
 use Rattle.decoding.proofs.Answered.{told}
 
+-- a call on the same cells and words, which another call makes
+abbrev pub Anew : Post → Post
+Anew post l cells a after = (c : MutBor (List Float)) × (d : MutBor (List Float)) × (c.now ≡ cells.now) × (d.now ≡ after.now) × post l c a d
+
+pub exported_anew : {ok : Bool} {N : Network} {most word : ℕ} {old new : List ℕ} {post post' : Post}
+    → ((l : Lent) (cells : MutBor (List Float)) (a : Result ℕ Refusal) (after : MutBor (List Float)) → post l cells a after → Anew post' l cells a after)
+    → Exported ok N most post word old new → Exported ok N most post' word old new
+exported_anew f (refused h e) = refused h e
+exported_anew {most = most} {word = word} {old = old} {new = new} f (made o m) =
+    let p = f m.of m.cells m.answer m.after m.by_call in
+    made o (record {
+      of = m.of;
+      network = m.network;
+      cells = p.0;
+      room = rw p.2 m.room;
+      answer = m.answer;
+      after = p.1;
+      by_call = p.4;
+      told = rw p.3 m.told;
+    })
+
 module _ {N : Network} {ok : Bool} {most word : ℕ} {old new : List ℕ} (all : Bool) where
   pub exported : {post : Post} (gives : Network → List Float → Filled Float)
       → (ok && sizes_hold N ≡ false → out 1 old ≡ filled_out all (gives N (doubles_of old)) old) → (ok ≡ true → all ≡ true)

@@ -3,3 +3,4 @@ pub mod Decoded
 pub mod Answered
 pub mod Listed
 pub mod Filled
+pub mod ListFilled

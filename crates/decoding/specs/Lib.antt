@@ -2,3 +2,4 @@
 pub mod Exports
 pub mod Decoding
 pub mod Filling
+pub mod Listing

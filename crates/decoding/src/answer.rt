@@ -6,7 +6,7 @@ ghost use Rattle.decoding.specs.Exports.{packed, out, filled_out, outs, laid_out
 ghost use Rattle.decoding.specs.Decoding.{Cells, list_room};
 
 use sequence::{Answer, count, number};
-use words::{encode_doubles, encode_words};
+use words::encode;
 
 pub fn pack(answer: Answer) -> u64
     requires { count_of answer < 0x1_0000_0000 }
@@ -26,7 +26,7 @@ pub fn answered(answer: Answer, cells: &[f64], sheet: &mut [u8]) -> u64
     requires { (count_of answer ≤ length cells.now) × (count_of answer < 0x1_0000_0000) × (8 * count_of answer ≤ length sheet.old) }
     ensures { out result sheet.new ≡ filled_out true (answered answer cells.now) sheet.old }
 {
-    encode_doubles(cells, count(answer), sheet);
+    encode(&cells[..count(answer)], sheet);
     pack(answer)
 }
 
@@ -53,8 +53,8 @@ pub fn listed(
     ensures { outs result rows.new cols.new values.new ≡ laid_out true (listed answer r.now c.now v.now) rows.old cols.old values.old }
 {
     let n = count(answer);
-    encode_words(r, n, rows);
-    encode_words(c, n, cols);
-    encode_doubles(v, n, values);
+    encode(&r[..n], rows);
+    encode(&c[..n], cols);
+    encode(&v[..n], values);
     pack(answer)
 }

@@ -1,46 +1,25 @@
-// Byte slices into arrays of words and doubles, and a network's four into arrays of the greatest lengths.
-ghost use Rattle.std.specs.Prelude.{◌≡◌, ◌<◌, ◌≤◌, ◌/◌, length, is_some, IfSome};
-ghost use Rattle.words.specs.Words.{words_of, doubles_of};
+// Byte slices into arrays of their items, and a network's four into arrays of the greatest lengths.
+ghost use Rattle.std.specs.Prelude.{◌≡◌, ◌/◌, length, is_some, IfSome};
+ghost use Rattle.sequence.specs.Lists.{made};
 ghost use Rattle.network.specs.Sites.{network_in};
 ghost use Rattle.decoding.specs.Exports.{decoded, all_whole};
-ghost use Rattle.decoding.specs.Decoding.{fits, Held, zeros, Holds, Read};
+ghost use Rattle.decoding.specs.Decoding.{fits, zeros, network_taken, Read};
 
-use crate::{Arrays, Lengths};
+use crate::{Arrays, Taken};
 use network::Lent;
-use words::{decode_doubles, decode_words};
+use words::{FromBytes, decode};
 
-// How many items of `size` bytes a slice has, where it is a whole number of them and `most` are as many or more.
-pub fn count_within(b: &[u8], size: usize, most: usize) -> Option<usize>
-    requires { 0 < size }
-    ensures fits { is_some result ≡ fits size b.now most }
-    ensures count { IfSome result (λ n. (n ≡ length b.now / size) × (n ≤ most)) }
+// The items of a slice in front of an array, where the slice is whole and the array holds them.
+pub fn take<'a, T: FromBytes>(b: &[u8], into: &'a mut [T]) -> Option<&'a mut [T]>
+    ensures fits { is_some result ≡ fits T.SIZE b.now (length into.old) }
+    ensures held { IfSome result (λ s. s.now ≡ made (T.nth b.now) (length b.now / T.SIZE)) }
 {
-    let count = b.len() / size;
-    if b.len() % size != 0 || most < count {
+    if b.len() % T::SIZE != 0 {
         return None;
     }
-    Some(count)
-}
-
-// The words of a slice, where it is whole and the array holds them. `take_doubles` is alike but for type and size: one
-// function for both would take those and the decoder as arguments, and is no plainer.
-pub fn take_words(b: &[u8], into: &mut [u32]) -> Option<usize>
-    ensures fits { is_some result ≡ fits 4 b.now (length into.old) }
-    ensures held { IfSome result (λ n. Held (words_of b.now) n into.new) }
-{
-    let count = count_within(b, 4, into.len())?;
-    decode_words(b, count, into);
-    Some(count)
-}
-
-// The doubles of a slice, where it is whole and the array holds them.
-pub fn take_doubles(b: &[u8], into: &mut [f64]) -> Option<usize>
-    ensures fits { is_some result ≡ fits 8 b.now (length into.old) }
-    ensures held { IfSome result (λ n. Held (doubles_of b.now) n into.new) }
-{
-    let count = count_within(b, 8, into.len())?;
-    decode_doubles(b, count, into);
-    Some(count)
+    let items = into.get_mut(..b.len() / T::SIZE)?;
+    decode(b, items);
+    Some(items)
 }
 
 impl Arrays {
@@ -56,23 +35,28 @@ impl Arrays {
         }
     }
 
-    // The lengths of a network, which is then in front of the arrays. One that they do not hold has a ragged slice, or
-    // sizes that do not hold.
+    // A network in front of the arrays. One that they do not hold has a ragged slice, or sizes that do not hold.
     // Here and in `read` the four slices stay single, as C lends them, in its order.
-    pub fn fill(
-        &mut self,
+    pub fn fill<'a>(
+        &'a mut self,
         wiring: &[u8],
         readings: &[u8],
         term_index: &[u8],
         term_coefficient: &[u8],
-    ) -> Option<Lengths>
-        ensures { Read (all_whole wiring.entry readings.entry term_index.entry term_coefficient.entry) (decoded wiring.entry readings.entry term_index.entry term_coefficient.entry) result (λ l. Holds (decoded wiring.entry readings.entry term_index.entry term_coefficient.entry) l self.new) }
+    ) -> Option<Taken<'a>>
+        ensures { Read (all_whole wiring.entry readings.entry term_index.entry term_coefficient.entry) (decoded wiring.entry readings.entry term_index.entry term_coefficient.entry) result (λ t. network_taken t ≡ decoded wiring.entry readings.entry term_index.entry term_coefficient.entry) }
     {
-        Some(Lengths {
-            wiring: take_words(wiring, &mut self.wiring)?,
-            readings: take_doubles(readings, &mut self.readings)?,
-            indexes: take_words(term_index, &mut self.indexes)?,
-            coefficients: take_doubles(term_coefficient, &mut self.coefficients)?,
+        let Arrays {
+            wiring: words,
+            readings: doubles,
+            indexes,
+            coefficients,
+        } = self;
+        Some(Taken {
+            wiring: take(wiring, words)?,
+            readings: take(readings, doubles)?,
+            term_index: take(term_index, indexes)?,
+            term_coefficient: take(term_coefficient, coefficients)?,
         })
     }
 
@@ -86,12 +70,17 @@ impl Arrays {
     ) -> Option<Lent<'a>>
         ensures { Read (all_whole wiring.entry readings.entry term_index.entry term_coefficient.entry) (decoded wiring.entry readings.entry term_index.entry term_coefficient.entry) result (λ l. network_in l ≡ decoded wiring.entry readings.entry term_index.entry term_coefficient.entry) }
     {
-        let l = self.fill(wiring, readings, term_index, term_coefficient)?;
+        let Taken {
+            wiring,
+            readings,
+            term_index,
+            term_coefficient,
+        } = self.fill(wiring, readings, term_index, term_coefficient)?;
         Some(Lent {
-            wiring: &self.wiring[..l.wiring],
-            readings: &self.readings[..l.readings],
-            term_index: &self.indexes[..l.indexes],
-            term_coefficient: &self.coefficients[..l.coefficients],
+            wiring,
+            readings,
+            term_index,
+            term_coefficient,
         })
     }
 }

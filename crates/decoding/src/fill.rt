@@ -1,12 +1,12 @@
 // Calls that fill one sheet with doubles, on a network's four slices as bytes.
-ghost use Rattle.std.specs.Prelude.{◌<◌, length};
+ghost use Rattle.std.specs.Prelude.{◌≡◌, ◌<◌, length};
 ghost use Rattle.decoding.specs.Exports.{all_whole, decoded};
 ghost use Rattle.decoding.specs.Decoding.{fits};
 ghost use Rattle.decoding.specs.Filling.{FillsWithin, Exported, pre_at, post_at, ExportedAt};
 
 use crate::Arrays;
 use crate::answer::{answered, cells_for, pack};
-use crate::decode::take_doubles;
+use crate::decode::take;
 use network::Lent;
 use sequence::{Answer, Refusal};
 
@@ -49,15 +49,19 @@ pub fn fill_from_solution<const MOST: usize, F: FnOnce(Lent<'_>, &[f64], &mut [f
     ensures { ExportedAt (fits 8 solution.now 6017) (all_whole wiring.entry readings.entry term_index.entry term_coefficient.entry) (decoded wiring.entry readings.entry term_index.entry term_coefficient.entry) MOST (post_at (F.post call) solution.now) result sheet.old sheet.new }
 {
     let mut solved = [0.0; 6017];
-    let Some(count) = take_doubles(solution, &mut solved) else {
+    let Some(solved) = take(solution, &mut solved) else {
         return pack(Err(Refusal::Size));
     };
-    let mut arrays = Arrays::new();
-    let Some(lent) = arrays.read(wiring, readings, term_index, term_coefficient) else {
-        return pack(Err(Refusal::Size));
-    };
-    let mut cells = [0.0; MOST];
-    let n = cells_for(sheet.len(), MOST);
-    let answer = call(lent, &solved[..count], &mut cells[..n]);
-    answered(answer, &cells[..n], sheet)
+    let solution: &[f64] = solved;
+    fill_sheet::<MOST, _>(
+        wiring,
+        readings,
+        term_index,
+        term_coefficient,
+        sheet,
+        |lent, cells|
+            requires { (c : _) → c.now ≡ cells.old → F.pre call lent solution c }
+            ensures { (c : _) × (d : _) × (c.now ≡ cells.old) × (d.now ≡ cells.new) × F.post call lent.entry solution.entry c result d }
+        { call(lent, solution, cells) },
+    )
 }

@@ -5,6 +5,7 @@
 pub mod answer;
 pub mod decode;
 pub mod fill;
+pub mod list;
 
 // Arrays of the greatest lengths that a network's slices have.
 #[derive(Drop)]
@@ -15,11 +16,11 @@ pub struct Arrays {
     pub coefficients: [f64; 1024],
 }
 
-// The lengths of a network's slices.
-#[derive(Clone, Copy)]
-pub struct Lengths {
-    pub wiring: usize,
-    pub readings: usize,
-    pub indexes: usize,
-    pub coefficients: usize,
+// A network's slices in front of such arrays, of which the readings may change.
+#[derive(Drop)]
+pub struct Taken<'a> {
+    pub wiring: &'a [u32],
+    pub readings: &'a mut [f64],
+    pub term_index: &'a [u32],
+    pub term_coefficient: &'a [f64],
 }

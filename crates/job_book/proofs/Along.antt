@@ -13,7 +13,8 @@ use Rattle.sequence.specs.Lists.{made}
 use Rattle.sequence.specs.Answers.{Test}
 use Rattle.sequence.proofs.Lists.{made_length, made_at}
 use Rattle.kkt.specs.Slots.{Rule}
-use Rattle.job_book.specs.Book.{Change, value_of, Given, Words, Line, Outcome, outcome, place_of, step, lines, words_after}
+use Rattle.job_book.specs.declared.Change.{Change}
+use Rattle.job_book.specs.Book.{Given, Words, Line, Outcome, outcome, place_of, step, lines, words_after}
 use Rattle.job_book.specs.Run.{accepted, any_accepted, last_count, last_value, standing, Runs, changes_in}
 use Rattle.job_book.specs.Run.Runs.{ended, called}
 use Rattle.job_book.proofs.Steps.{Taken, taken, refused}
@@ -69,11 +70,11 @@ module _ (G : Given) (rule : Rule) (further : Words → Change → List Test) wh
         go false q = rw (refused G rule further W l e q)
 
     reading_after : (p : ℕ) → p < length W.readings
-        → get_or W₁.readings p nan ≡ cond (accepted l && eqb (place_of G l.change) p) (value_of l.change) (get_or W.readings p nan)
+        → get_or W₁.readings p nan ≡ cond (accepted l && eqb (place_of G l.change) p) l.change.value (get_or W.readings p nan)
     reading_after p h = go (eqb l.number 0) refl
       where
-        go : (a : Bool) → eqb l.number 0 ≡ a → get_or W₁.readings p nan ≡ cond (a && eqb (place_of G l.change) p) (value_of l.change) (get_or W.readings p nan)
-        go true q = rw (taken G rule further W l e q).left (set_reading W.readings (place_of G l.change) (value_of l.change) p h)
+        go : (a : Bool) → eqb l.number 0 ≡ a → get_or W₁.readings p nan ≡ cond (a && eqb (place_of G l.change) p) l.change.value (get_or W.readings p nan)
+        go true q = rw (taken G rule further W l e q).left (set_reading W.readings (place_of G l.change) l.change.value p h)
         go false q = rw (refused G rule further W l e q)
 
   length_kept : {W W' : Words} {ls : List Line} → Runs G rule further W ls W' → length W'.readings ≡ length W.readings

@@ -10,7 +10,8 @@ use Rattle.sequence.specs.Answers.{Test}
 use Rattle.kkt.specs.Slots.{Rule}
 use Rattle.change_table.specs.Table.{Cell, named_cells, among, values_at}
 use Rattle.change_table.proofs.Frame.{named_same, frame}
-use Rattle.job_book.specs.Book.{Change, kind_of, index_of, value_of, Given, Words, Line, outcome, counts_in, matrix_of, step}
+use Rattle.job_book.specs.declared.Change.{Change}
+use Rattle.job_book.specs.Book.{Given, Words, Line, outcome, counts_in, matrix_of, step}
 use Rattle.job_book.specs.Run.{outside, Runs}
 use Rattle.job_book.specs.Run.Runs.{ended, called}
 use Rattle.job_book.proofs.Steps.{taken, refused, network_accepted}
@@ -29,7 +30,7 @@ module _ (G : Given) (rule : Rule) (further : Words → Change → List Test) (r
   Named r = (k i : ℕ) → named_cells (counts_in G) G.wiring r k i ≡ named_cells (counts_in G) G.wiring r₀ k i
 
   abbrev named_by : Change → List Cell
-  named_by h = named_cells (counts_in G) G.wiring r₀ (kind_of h) (index_of h)
+  named_by h = named_cells (counts_in G) G.wiring r₀ h.kind h.index
 
   module _ (W : Words) (l : Line) {W₁ : Words} (e : outcome l.number l.count W₁ ≡ step G rule further W l.change) (same : Named W.readings) where
     named_after : Named W₁.readings
@@ -39,7 +40,7 @@ module _ (G : Given) (rule : Rule) (further : Words → Change → List Test) (r
         go true q =
             let t = taken G rule further W l e q in
             ap (λ (U : Words). named_cells (counts_in G) G.wiring U.readings k i) t.left
-            ∙ named_same (counts_in G) G.wiring W.readings (kind_of l.change) (index_of l.change) (value_of l.change) (subst T (sym t.passed.kind) tt) t.passed.index k i
+            ∙ named_same (counts_in G) G.wiring W.readings l.change.kind l.change.index l.change.value (subst T (sym t.passed.kind) tt) t.passed.index k i
             ∙ same k i
         go false q = ap (λ (U : Words). named_cells (counts_in G) G.wiring U.readings k i) (refused G rule further W l e q) ∙ same k i
 
@@ -51,9 +52,9 @@ module _ (G : Given) (rule : Rule) (further : Words → Change → List Test) (r
         go true q o =
             let t = taken G rule further W l e q in
             ap (λ (U : Words). values_at (matrix_of G rule U.readings) x) t.left
-            ∙ frame rule (counts_in G) G.wiring W.readings G.indexes G.coefficients G.solution (kind_of l.change) (index_of l.change) (value_of l.change) x
+            ∙ frame rule (counts_in G) G.wiring W.readings G.indexes G.coefficients G.solution l.change.kind l.change.index l.change.value x
             (network_accepted G rule t.passed).wired (subst T (sym t.passed.kind) tt) t.passed.index
-            (ap (among x) (same (kind_of l.change) (index_of l.change)) ∙ o)
+            (ap (among x) (same l.change.kind l.change.index) ∙ o)
         go false q o = ap (λ (U : Words). values_at (matrix_of G rule U.readings) x) (refused G rule further W l e q)
 
   pub cells_stay : {W W' : Words} {ls : List Line} → Runs G rule further W ls W' → Named W.readings → (x : Cell) → T (outside G r₀ x ls)

@@ -25,7 +25,8 @@ use Rattle.network.proofs.Fields.{fields_flat}
 use Rattle.solution_check.specs.Tests.{solution_long, solution_holds, solution_tests}
 use Rattle.kkt.specs.Slots.{Rule}
 use Rattle.change_table.specs.Table.{kinds, is_kind, field_of}
-use Rattle.job_book.specs.Book.{Change, kind_of, index_of, value_of, Given, Words, counts_in, network_of, place_of, changed}
+use Rattle.job_book.specs.declared.Change.{Change}
+use Rattle.job_book.specs.Book.{Given, Words, counts_in, network_of, place_of, changed}
 use Rattle.job_book.proofs.Steps.{Passed, network_accepted}
 
 -- a word that is set, read at any place of the list
@@ -83,11 +84,11 @@ module _ (G : Given) (rule : Rule) {W : Words} {h : Change} (p : Passed G rule W
   pub place_below : place_of G h < length W.readings
   unfolding place
   place_below =
-      omega (arith, field_inside (counts_in G) (field_of (kind_of h)), (network_accepted G rule p).read.long, p.index)
+      omega (arith, field_inside (counts_in G) (field_of h.kind), (network_accepted G rule p).read.long, p.index)
 
   still_sized : sizes_hold (network_of G (changed G W.readings h)) ≡ sizes_hold (network_of G W.readings)
   unfolding sizes_hold lengths_hold
-  still_sized = rw (length-set W.readings (place_of G h) (value_of h))
+  still_sized = rw (length-set W.readings (place_of G h) h.value)
 
   still_read : readings_hold (counts_in G) (network_of G (changed G W.readings h)) ≡ true
   unfolding readings_hold
@@ -95,7 +96,7 @@ module _ (G : Given) (rule : Rule) {W : Words} {h : Change} (p : Passed G rule W
       let fields : Bool = every (field_holds (counts_in G) W.readings) 21 in
       let terms : Bool = all_within raw_limit G.coefficients in
       let both : fields && terms ≡ true = (network_accepted G rule p).readings_pass in
-      rw (still_within W.readings (place_of G h) (value_of h) (place_later (counts_in G) (kind_of h) (index_of h) p.kind) place_below p.value (counts_in G) (network_accepted G rule p).read (and_left fields terms both), and_right fields terms both)
+      rw (still_within W.readings (place_of G h) h.value (place_later (counts_in G) h.kind h.index p.kind) place_below p.value (counts_in G) (network_accepted G rule p).read (and_left fields terms both), and_right fields terms both)
 
   -- so the network with the change made passes every test that the network passed
   pub still_accepted : 0 ≡ first_of (solution_tests false (network_of G (changed G W.readings h)) G.solution)

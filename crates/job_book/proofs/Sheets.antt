@@ -16,7 +16,8 @@ use Rattle.sequence.proofs.Lists.{front_length}
 use Rattle.sequence.proofs.Fronts.{take_front}
 use Rattle.kkt.specs.Slots.{Rule}
 use Rattle.sens_dc.proofs.Returns.{matrix_laid}
-use Rattle.job_book.specs.Book.{Change, Given, Words, fronts, network_of, matrix_of, changed}
+use Rattle.job_book.specs.declared.Change.{Change}
+use Rattle.job_book.specs.Book.{Given, Words, fronts, network_of, matrix_of, changed}
 use Rattle.job_book.specs.Run.{triplets, list_in, Stands}
 use Rattle.job_book.proofs.Steps.{Taken}
 use Rattle.job_book.proofs.Readings.{still_accepted}

@@ -21,7 +21,8 @@ use Rattle.network.proofs.Tests.{accepted}
 use Rattle.solution_check.specs.Tests.{solution_long, solution_holds}
 use Rattle.kkt.specs.Slots.{Rule}
 use Rattle.change_table.specs.Table.{is_kind, field_of}
-use Rattle.job_book.specs.Book.{Change, kind_of, index_of, value_of, Given, Words, Line, Outcome, outcome, own_tests, fronts, outcome_by_number, counts_in, network_of, matrix_of, changed, number_of, step}
+use Rattle.job_book.specs.declared.Change.{Change}
+use Rattle.job_book.specs.Book.{Given, Words, Line, Outcome, outcome, own_tests, fronts, outcome_by_number, counts_in, network_of, matrix_of, changed, number_of, step}
 
 -- a list of tests gives 0 only where its first one fails
 first_failed : (n : ℕ) (b : Bool) (ts : List Test) → first_of (test (suc n) b ∷ ts) ≡ 0 → (b ≡ false) × (first_of ts ≡ 0)
@@ -53,9 +54,9 @@ module _ (G : Given) (rule : Rule) where
     pub sized : sizes_hold (network_of G W.readings) && solution_long (network_of G W.readings) G.solution ≡ true
     pub wiring : wiring_holds (counts_in G) G.wiring G.indexes ≡ true
     pub read : readings_hold (counts_in G) (network_of G W.readings) && solution_holds false (network_of G W.readings) G.solution ≡ true
-    pub value : within raw_limit (value_of h) ≡ true
-    pub kind : is_kind (kind_of h) ≡ true
-    pub index : index_of h < size (counts_in G) (field_of (kind_of h))
+    pub value : within raw_limit h.value ≡ true
+    pub kind : is_kind h.kind ≡ true
+    pub index : h.index < size (counts_in G) (field_of h.kind)
     pub fits : short_list (matrix_of G rule (changed G W.readings h)) W.rows W.cols W.values ≡ false
 
   pub network_accepted : {W : Words} {h : Change} → Passed W h → Accepted (network_of G W.readings) (counts_in G)

@@ -14,7 +14,8 @@ use Rattle.sequence.specs.Answers.{Test}
 use Rattle.sequence.specs.declared.Triplet.{Triplet}
 use Rattle.kkt.specs.Slots.{Rule}
 use Rattle.change_table.specs.Table.{values_at}
-use Rattle.job_book.specs.Book.{Change, Given, Words, Line, matrix_of, lines, words_after, changes_of, Ran, ran, numbers_of, counts_of_lines, run_number, run_call}
+use Rattle.job_book.specs.declared.Change.{Change}
+use Rattle.job_book.specs.Book.{Given, Words, Line, matrix_of, lines, words_after, changes_of, Ran, ran, numbers_of, counts_of_lines, run_number, run_call}
 use Rattle.job_book.specs.Run.{list_in, any_accepted, last_count, Runs, Stands, length_after, Demand3}
 use Rattle.job_book.proofs.Sheets.{Listed, list_left, list_stands}
 use Rattle.job_book.proofs.Along as along

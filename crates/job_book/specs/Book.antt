@@ -15,28 +15,14 @@ use Rattle.network.specs.Numbers.{Network}
 use Rattle.solution_check.specs.Tests.{solution_tests}
 use Rattle.kkt.specs.Slots.{Rule}
 use Rattle.change_table.specs.Table.{is_kind, field_of}
+use Rattle.job_book.specs.declared.Change.{Change}
 use Rattle.sens_dc.specs.Calls.{list_of}
 
 -- ---- a change
 
--- "A change is three little-endian 32-bit words"
-pub record Change : Type 0 where
-  pub head : ℕ
-  pub low : ℕ
-  pub high : ℕ
-
+-- "A change is three little-endian 32-bit words: the first has the kind in its top four bits and the index in the low 28; then the low and high halves of the new double"
 abbrev pub change : ℕ → ℕ → ℕ → Change
-change a l h = record { head = a; low = l; high = h }
-
--- "the first has the kind in its top four bits and the index in the low 28; then the low and high halves of the new double"
-abbrev pub kind_of : Change → ℕ
-kind_of h = h.head / 0x1000_0000
-
-abbrev pub index_of : Change → ℕ
-index_of h = h.head % 0x1000_0000
-
-abbrev pub value_of : Change → Float
-value_of h = of_bits binary64 (h.low + 0x1_0000_0000 * h.high)
+change a l h = record { kind = a / 0x1000_0000; index = a % 0x1000_0000; value = of_bits binary64 (l + 0x1_0000_0000 * h) }
 
 -- ---- what the book is fed, and what it holds
 
@@ -114,18 +100,18 @@ module _ (G : Given) where
 
   -- the word of the readings that a change sets
   abbrev pub place_of : Change → ℕ
-  place_of h = place counts_in (field_of (kind_of h)) (index_of h)
+  place_of h = place counts_in (field_of h.kind) h.index
 
   -- the readings with the change made
   abbrev pub changed : List Float → Change → List Float
-  changed r h = set r (place_of h) (value_of h)
+  changed r h = set r (place_of h) h.value
 
   module _ (rule : Rule) (further : Words → Change → List Test) where
     -- 1 to 3 on network and solution sheet as the matrix call has them, then the change's own; "7 holds if demand 2's list for them with the change made doesn't fit its sheets"
     abbrev pub change_tests : Words → Change → List Test
     change_tests W h =
         solution_tests false (network_of W.readings) G.solution
-        ++ (own_tests counts_in (kind_of h) (index_of h) (value_of h)
+        ++ (own_tests counts_in h.kind h.index h.value
         ++ test 7 (short_list (matrix_of rule (changed W.readings h)) W.rows W.cols W.values)
         ∷ further W h)
 

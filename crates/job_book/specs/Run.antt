@@ -8,7 +8,8 @@ use Rattle.sequence.specs.Sheets.{triplet, laid}
 use Rattle.kkt.specs.Slots.{Rule}
 use Rattle.change_table.specs.Table.{Cell, named_cells, among, values_at}
 use Rattle.sens_dc.specs.Calls.{matrix_call}
-use Rattle.job_book.specs.Book.{Change, kind_of, index_of, value_of, Given, Words, Line, outcome, counts_in, network_of, place_of, matrix_of, step, lines, words_after}
+use Rattle.job_book.specs.declared.Change.{Change}
+use Rattle.job_book.specs.Book.{Given, Words, Line, outcome, counts_in, network_of, place_of, matrix_of, step, lines, words_after}
 
 -- ---- the list in the sheets
 
@@ -43,7 +44,7 @@ module _ (G : Given) where
   -- the last value that an accepted call gave the reading at a place, and x where none did
   unfoldable pub last_value : ℕ → Float → List Line → Float
   last_value p x [] = x
-  last_value p x (l ∷ ls) = last_value p (cond (accepted l && eqb (place_of G l.change) p) (value_of l.change) x) ls
+  last_value p x (l ∷ ls) = last_value p (cond (accepted l && eqb (place_of G l.change) p) l.change.value x) ls
 
   -- "each reading at its last accepted value, or its first if it has none"
   unfoldable pub standing : List Float → List Line → List Float
@@ -53,7 +54,7 @@ module _ (G : Given) where
   unfoldable pub outside : List Float → Cell → List Line → Bool
   outside r x [] = true
   outside r x (l ∷ ls) =
-      not (accepted l && among x (named_cells (counts_in G) G.wiring r (kind_of l.change) (index_of l.change))) && outside r x ls
+      not (accepted l && among x (named_cells (counts_in G) G.wiring r l.change.kind l.change.index)) && outside r x ls
 
   -- the matrix call on these readings and sheets: it answers 0 and so many triplets, and every word is as it would leave it
   abbrev pub Stands : Rule → List Float → ℕ → Words → Type 0

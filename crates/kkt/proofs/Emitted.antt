@@ -15,7 +15,7 @@ use Rattle.sequence.specs.Lists.{each, when}
 use Rattle.sequence.specs.Links.{First}
 use Rattle.sequence.specs.declared.Triplet.{Triplet}
 use Rattle.sequence.specs.declared.Sink.{Sink}
-use Rattle.sequence.specs.Sheets.{emit, Sheets}
+use Rattle.sequence.specs.Sheets.{emit}
 use Rattle.sequence.specs.Sinks.{Gains}
 use Rattle.sequence.proofs.Lists.{each_same}
 use Rattle.sequence.proofs.Sinks.{none, begin, more, done, then}

@@ -1,6 +1,6 @@
 -- What the loops that put the matrix keep: what slots emit at a frame, and short columns as three triplets or none.
 -- Main definitions: `emitted_at`, `triple`, `span_of`. Assumes nothing.
-use Rattle.std.specs.Prelude.{ℕ, ◌+◌, ◌%◌, ◌≡◌, Bool, true, false, cond, List, [], ◌∷◌, ◌++◌, get_or, eqb, Float, Option, None}
+use Rattle.std.specs.Prelude.{ℕ, ◌+◌, ◌%◌, Bool, true, false, cond, List, [], ◌∷◌, ◌++◌, get_or, eqb, Float, Option, None}
 use Rattle.std.specs.Float.{nan, binary64}
 use Rattle.std.specs.Float.Ieee.{neg, mul}
 use Rattle.float64.specs.Values.{nought, one}
@@ -10,14 +10,13 @@ use Rattle.sequence.specs.Sheets.{emit}
 use Rattle.network.specs.declared.Counts.{Counts}
 use Rattle.network.specs.declared.Field.{Field}
 use Rattle.network.specs.declared.Part.TheVariants.{GenBus}
-use Rattle.network.specs.Layout.{reading, wire, ReadingsLaid}
-use Rattle.network.specs.Numbers.{Wired}
+use Rattle.network.specs.Layout.{reading, wire}
 use Rattle.solution.specs.declared.Entry.{Entry}
-use Rattle.solution.specs.Sheet.{solved, pieces, SheetLaid}
+use Rattle.solution.specs.Sheet.{solved, pieces}
 use Rattle.kkt_index.specs.declared.Block.{Block}
 use Rattle.kkt_index.specs.declared.Block.TheVariants.{Va, Pg, Flow, Psh, Cost, LamLb, LamUb, GammaLb, GammaUb, RhoLb, RhoUb, MuLb, MuUb, Segments, Linear, NuBal, NuFlow, Eta}
 use Rattle.kkt_index.specs.declared.KktIdx.{KktIdx}
-use Rattle.kkt_index.specs.Index.{Narrow, start_in}
+use Rattle.kkt_index.specs.Index.{start_in}
 use Rattle.snapping.specs.Expr.{Expr, eval, less_unit}
 use Rattle.snapping.specs.Expr.Expr.{num, minus}
 use Rattle.snapping.specs.Snap.{upper_slack, lower_slack, upper_dual, lower_dual}

@@ -8,7 +8,8 @@ use kkt_index::KktIdx;
 use network::Grid;
 use solution::{Entry, solved_at};
 
-// A network's grid and its solution sheet, with the index that says where the matrix's rows and columns stand.
+// A network's grid and its solution sheet, with the index that says where the matrix's rows and columns stand. It holds no
+// `OperatingPoint`: the index has the pieces too, and a clause would have to say that both are one.
 #[derive(Clone, Copy)]
 pub struct Kkt<'a> {
     pub grid: Grid<'a>,

@@ -77,6 +77,7 @@ pub fn entry(x: KktIdx, a: Block, i: usize, b: Block, j: usize, value: f64) -> O
 }
 
 // Triplets of a column, one after the other.
+#[inline(always)]
 pub fn put_all<const N: usize>(sink: &mut Sink<'_>, triplets: [Option<Triplet>; N])
     requires { sink.old.count + N ≤ 0x4000_0000 }
     ensures puts { Gains (emits triplets.entry) sink.old sink.new }

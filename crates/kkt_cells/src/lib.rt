@@ -58,33 +58,33 @@ fn cell_item(less: bool, from: usize, col: usize, i: usize, v: f64) -> Option<Tr
     kept(from + i, col, taken(less, v))
 }
 
+// A `Kkt` with every bus's sums that are not zero: where each bus's start, the other buses, and the sums.
+#[derive(Clone, Copy)]
+pub struct KktSums<'a, 'b> {
+    pub kkt: Kkt<'a>,
+    pub starts: &'b [u32],
+    pub buses: &'b [u32],
+    pub values: &'b [f64],
+    pub ghost kept: { Kept kkt.grid.plan.counts kkt.grid.plan.wiring.now kkt.grid.plan.readings.now starts.now buses.now values.now },
+}
+
 // Bus j's kept sums as entries: in its va column, negatively, against the balances, or in its nu_bal
 // column against the angles.
-// `starts`, `buses`, `sums` stay single: a struct would hold the `Kkt`'s grid again, with a clause that both are one.
-pub fn put_kept(
-    kkt: &Kkt<'_>,
-    less: bool,
-    starts: &[u32],
-    buses: &[u32],
-    sums: &[f64],
-    j: usize,
-    sink: &mut Sink<'_>,
-)
-    requires kept { Kept kkt.now.grid.plan.counts kkt.now.grid.plan.wiring.now kkt.now.grid.plan.readings.now starts.now buses.now sums.now }
-    requires j_lt_buses { (j < kkt.now.grid.plan.counts.buses) × (sink.old.count < 0x800_0000) }
-    ensures puts { Gains (emitted_at kkt.now (balance_slots less kkt.now.grid.plan.counts kkt.now.grid.plan.wiring.now j)) sink.old sink.new }
+pub fn put_kept(sums: &KktSums<'_, '_>, less: bool, j: usize, sink: &mut Sink<'_>)
+    requires { (j < sums.now.kkt.grid.plan.counts.buses) × (sink.old.count < 0x800_0000) }
+    ensures puts { Gains (emitted_at sums.now.kkt (balance_slots less sums.now.kkt.grid.plan.counts sums.now.kkt.grid.plan.wiring.now j)) sink.old sink.new }
     ensures most { sink.new.count ≤ sink.old.count + 1280 }
 {
-    let va = kkt.index.start(Block::Va);
-    let nu_bal = kkt.index.start(Block::NuBal);
+    let va = sums.kkt.index.start(Block::Va);
+    let nu_bal = sums.kkt.index.start(Block::NuBal);
     let (from, col) = if less {
         (nu_bal, va + j)
     } else {
         (va, nu_bal + j)
     };
-    let first = wide(starts[j]);
-    let to = wide(starts[j + 1]);
+    let first = wide(sums.starts[j]);
+    let to = wide(sums.starts[j + 1]);
     for t in first..to {
-        sink.put(cell_item(less, from, col, wide(buses[t]), sums[t]));
+        sink.put(cell_item(less, from, col, wide(sums.buses[t]), sums.values[t]));
     }
 }

@@ -16,11 +16,13 @@ ghost use Rattle.kkt.specs.Slots.Rule.{first_place};
 
 use kkt::{Kkt, entry, put_all};
 use kkt_index::Block;
-use network::layout::{wide, word};
+use network::layout::{part_size, wide, word};
 use network::{Counts, Field, Part};
-use sequence::{Sink, Triplet, push};
+use sequence::linking::link;
+use sequence::{Sink, Triplet};
 use snapping::{gamma_lb_of, gamma_ub_of};
 use solution::OperatingPoint;
+use susceptance::{branch_of, is_from};
 
 // The chains of a part whose words are buses, by bus.
 // It asks for the wiring alone (a plan asks for more, a `Wiring` would be made for it), and writes `head` and `next`.
@@ -30,18 +32,20 @@ pub fn link_part(wiring: &[u32], c: Counts, p: Part, head: &mut [u32], next: &mu
     requires buses_in_bounds { (c.buses ≤ length head.old) × (part_size c p ≤ length next.old) × (part_size c p ≤ 0x1000) }
     ensures { Links (wire c wiring.now p) c.buses (part_size c p) 0 head.new next.new }
 {
-    let to = network::layout::part_size(c, p);
-    head[..c.buses].fill(to as u32);
-    for i in (0..to).rev() {
-        push(head, next, word(wiring, c, p, i), i);
-    }
+    link(
+        c.buses,
+        part_size(c, p),
+        |i| word(wiring, c, p, i),
+        head,
+        next,
+    );
 }
 
 // + at a from end, - at a to end.
 fn sign_at(e: usize) -> f64
     ensures { result ≡ sign_of e }
 {
-    if e % 2 == 0 { 1.0 } else { -1.0 }
+    if is_from(e) { 1.0 } else { -1.0 }
 }
 
 // The entries of the branch of end `end`, which is at bus j.
@@ -49,7 +53,7 @@ fn end_items(kkt: &Kkt<'_>, j: usize, end: usize) -> [Option<Triplet>; 3]
     requires { (j < kkt.now.grid.plan.counts.buses) × (end < 2 * kkt.now.grid.plan.counts.branches) }
     ensures { result ≡ triple (item_at kkt.now) (end_slots kkt.now.grid.plan.counts kkt.now.grid.plan.wiring.now j (sign_at end) (end / 2)) }
 {
-    let e = end / 2;
+    let e = branch_of(end);
     let a = sign_at(end);
     let sw = kkt.grid.reading(Field::Sw, e);
     let point = OperatingPoint {
@@ -68,7 +72,7 @@ fn end_items(kkt: &Kkt<'_>, j: usize, end: usize) -> [Option<Triplet>; 3]
 }
 
 // The branches at bus j, along its chain.
-// Chains stay two slices here and below: a struct would hold the `Kkt`'s grid again, with a clause that both are one.
+// Chains stay two slices here and below: `KktLines` asks for the sums too, and of each other pair two functions read.
 pub fn put_ends(kkt: &Kkt<'_>, head: &[u32], next: &[u32], j: usize, sink: &mut Sink<'_>)
     requires chains { Chains kkt.now.grid.plan.counts kkt.now.grid.plan.wiring.now head.now next.now }
     requires j_lt_buses { (j < kkt.now.grid.plan.counts.buses) × (sink.old.count < 0x800_0000) }
@@ -76,6 +80,7 @@ pub fn put_ends(kkt: &Kkt<'_>, head: &[u32], next: &[u32], j: usize, sink: &mut 
     ensures most { sink.new.count ≤ sink.old.count + 3072 }
 {
     let to = 2 * kkt.grid.plan.counts.branches;
+    // Along the links, which no range counts.
     let mut end = wide(head[j]);
     while end < to {
         put_all(sink, end_items(kkt, j, end));
@@ -105,6 +110,7 @@ fn put_bus_generators(kkt: &Kkt<'_>, head: &[u32], next: &[u32], i: usize, sink:
     ensures most { sink.new.count ≤ sink.old.count + 256 }
 {
     let to = kkt.grid.plan.counts.generators;
+    // Along the links, which no range counts.
     let mut j = wide(head[i]);
     while j < to {
         sink.put(entry(kkt.index, Block::Pg, j, Block::NuBal, i, -1.0));

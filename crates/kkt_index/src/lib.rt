@@ -4,11 +4,13 @@
 ghost use Rattle.std.specs.Prelude.{◌≡◌, ◌*◌, ◌≤◌};
 ghost use Rattle.float64.specs.Values.{tolerance};
 ghost use Rattle.network.specs.Layout.{Few};
+ghost use Rattle.solution.specs.Sheet.{pieces};
 ghost use Rattle.kkt_index.specs.Index.{rows_of, linear_row_count, Indexed, Narrow, start_in};
 
 use model::RowLimits;
 use model::rows::row_limits;
 use network::{Counts, Plan};
+use solution::piece_count;
 
 // The blocks of the matrix's rows and columns, in order.
 #[derive(Clone, Copy, PartialEq, Eq, Debug)]
@@ -122,7 +124,16 @@ impl KktIdx {
         }
     }
 
-    // Where a block starts.
+    // Where everything stands for a plan.
+    pub fn of(plan: &Plan<'_>) -> KktIdx
+        ensures indexed { Indexed plan.now.counts (pieces plan.now.counts plan.now.wiring.now) (linear_row_count plan.now.counts plan.now.wiring.now plan.now.readings.now) result }
+        ensures narrow { Narrow result }
+    {
+        let counts = plan.counts;
+        KktIdx::new(counts, piece_count(plan.wiring, counts), linear_rows(plan))
+    }
+
+    // Where a block starts. `Narrow` is a clause: a ghost field speaks of fields, and would name every start.
     pub fn start(self, b: Block) -> usize
         requires { Narrow self }
         ensures { (result ≡ start_in self b) × (result ≤ 0x1_0000) }
@@ -161,7 +172,7 @@ pub fn rows_of(limits: RowLimits) -> usize
     }
 }
 
-// How many rows of the matrix the linear rows have.
+// How many rows of the matrix the linear rows have. One line over its own test, as opf_layout's counts are.
 pub fn linear_rows(plan: &Plan<'_>) -> usize
     ensures { (result ≡ linear_row_count plan.now.counts plan.now.wiring.now plan.now.readings.now) × (result ≤ 2 * plan.now.counts.rows) }
 {

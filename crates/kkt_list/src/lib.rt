@@ -5,9 +5,7 @@ ghost use Rattle.std.specs.Prelude.{◌≡◌, ◌+◌, ◌*◌, ◌<◌, ◌≤
 ghost use Rattle.sequence.specs.Lists.{each};
 ghost use Rattle.sequence.specs.Sheets.{room};
 ghost use Rattle.sequence.specs.Sinks.{Gains};
-ghost use Rattle.susceptance.specs.Incidence.{Chains};
-ghost use Rattle.kkt_index.specs.Index.{Indexed, linear_row_count};
-ghost use Rattle.solution.specs.Sheet.{pieces, SheetLaid};
+ghost use Rattle.network.specs.Numbers.{Termed};
 ghost use Rattle.kkt.specs.Slots.{site_of, block_slots, emission, emission_at};
 ghost use Rattle.kkt.specs.Slots.Rule.{first_place};
 ghost use Rattle.kkt.specs.Matrix.{kkt_matrix_list};
@@ -15,18 +13,18 @@ ghost use Rattle.kkt.specs.Walks.{emitted_at};
 ghost use Rattle.kkt_cells.specs.Cells.{Kept};
 
 use kkt::{Kkt, KktSite};
-use kkt_buses::{put_angles, put_balances};
-use kkt_cells::keep_sums;
+use kkt_buses::{KktLines, put_angles, put_balances};
+use kkt_cells::{KktSums, keep_sums};
 use kkt_generators::{put_dispatch, put_epigraphs, put_segment_duals};
-use kkt_index::{Block, KktIdx, linear_rows};
+use kkt_index::{Block, KktIdx};
 use kkt_rows::put_rows;
 use kkt_short::put_short;
-use network::{Grid, Site};
 use sequence::{Sink, room};
-use solution::piece_count;
+use solution::SolvedSite;
 use susceptance::{Ends, link_ends};
 
-const EMISSION: [Block; 18] = [
+// The blocks in the order in which they are put.
+const EMISSION: &[Block] = &[
     Block::Va,
     Block::Pg,
     Block::Flow,
@@ -47,39 +45,37 @@ const EMISSION: [Block; 18] = [
     Block::Linear,
 ];
 
-// The block of a rank in the order of emission.
-fn emission_at(k: usize) -> Block
-    requires { k < 18 }
-    ensures { result ≡ emission_at k }
-{
-    EMISSION[k]
+// What the blocks are put from: sums and chains made once, and the terms of the linear rows.
+#[derive(Clone, Copy)]
+struct Prepared<'a, 'b, 'c> {
+    lines: KktLines<'a, 'b, 'c>,
+    term_index: &'a [u32],
+    term_coefficient: &'a [f64],
+    ghost termed: { Termed lines.sums.kkt.grid.plan.counts lines.sums.kkt.grid.plan.wiring.now term_index.now term_coefficient.now },
 }
 
 // Every column of a block.
-// Here and in `put_blocks` slices stay single: a struct would hold the grid again, with a clause that both are one.
-fn put_block(
-    site: &KktSite<'_>,
-    head: &[u32],
-    next: &[u32],
-    starts: &[u32],
-    buses: &[u32],
-    sums: &[f64],
-    b: Block,
-    sink: &mut Sink<'_>,
-)
-    requires chains { Chains site.now.kkt.grid.plan.counts site.now.kkt.grid.plan.wiring.now head.now next.now }
-    requires kept { Kept site.now.kkt.grid.plan.counts site.now.kkt.grid.plan.wiring.now site.now.kkt.grid.plan.readings.now starts.now buses.now sums.now }
-    requires at_bound { sink.old.count < 0x200_0000 }
-    ensures puts { Gains (emitted_at site.now.kkt (block_slots (site_of first_place site.now.kkt.grid.plan.counts site.now.kkt.grid.plan.wiring.now site.now.kkt.grid.plan.readings.now site.now.term_index.now site.now.term_coefficient.now) b)) sink.old sink.new }
+#[inline(always)]
+fn put_block(site: &Prepared<'_, '_, '_>, b: Block, sink: &mut Sink<'_>)
+    requires { sink.old.count < 0x200_0000 }
+    ensures puts { Gains (emitted_at site.now.lines.sums.kkt (block_slots (site_of first_place site.now.lines.sums.kkt.grid.plan.counts site.now.lines.sums.kkt.grid.plan.wiring.now site.now.lines.sums.kkt.grid.plan.readings.now site.now.term_index.now site.now.term_coefficient.now) b)) sink.old sink.new }
     ensures most { sink.new.count ≤ sink.old.count + 0x18_0000 }
 {
+    let kkt = &site.lines.sums.kkt;
     match b {
-        Block::Va => put_angles(&site.kkt, head, next, starts, buses, sums, sink),
-        Block::Pg => put_dispatch(&site.kkt, sink),
-        Block::Cost => put_epigraphs(&site.kkt, sink),
-        Block::Segments => put_segment_duals(&site.kkt, sink),
-        Block::NuBal => put_balances(&site.kkt, starts, buses, sums, sink),
-        Block::Linear => put_rows(site, sink),
+        Block::Va => put_angles(&site.lines, sink),
+        Block::Pg => put_dispatch(kkt, sink),
+        Block::Cost => put_epigraphs(kkt, sink),
+        Block::Segments => put_segment_duals(kkt, sink),
+        Block::NuBal => put_balances(&site.lines.sums, sink),
+        Block::Linear => {
+            let rows = KktSite {
+                kkt: *kkt,
+                term_index: site.term_index,
+                term_coefficient: site.term_coefficient,
+            };
+            put_rows(&rows, sink)
+        }
         Block::Flow
         | Block::Psh
         | Block::LamLb
@@ -91,40 +87,21 @@ fn put_block(
         | Block::MuLb
         | Block::MuUb
         | Block::NuFlow
-        | Block::Eta => put_short(&site.kkt, b, sink),
+        | Block::Eta => put_short(kkt, b, sink),
     }
 }
 
-// Every block.
-fn put_blocks(
-    site: &KktSite<'_>,
-    head: &[u32],
-    next: &[u32],
-    starts: &[u32],
-    buses: &[u32],
-    sums: &[f64],
-    sink: &mut Sink<'_>,
-)
-    requires chains { Chains site.now.kkt.grid.plan.counts site.now.kkt.grid.plan.wiring.now head.now next.now }
-    requires kept { Kept site.now.kkt.grid.plan.counts site.now.kkt.grid.plan.wiring.now site.now.kkt.grid.plan.readings.now starts.now buses.now sums.now }
-    requires empty { sink.old.count ≡ 0 }
-    ensures puts { Gains (emitted_at site.now.kkt (each (length emission) (λ k. block_slots (site_of first_place site.now.kkt.grid.plan.counts site.now.kkt.grid.plan.wiring.now site.now.kkt.grid.plan.readings.now site.now.term_index.now site.now.term_coefficient.now) (emission_at k)))) sink.old sink.new }
+// Every block. What they are put from is copied and their functions are inlined: else, after each triplet that is
+// written, it would be read anew through the reference, since the sheets might overlap it for all that the machine knows.
+fn put_blocks(site: &Prepared<'_, '_, '_>, sink: &mut Sink<'_>)
+    requires { sink.old.count ≡ 0 }
+    ensures puts { Gains (emitted_at site.now.lines.sums.kkt (each (length emission) (λ k. block_slots (site_of first_place site.now.lines.sums.kkt.grid.plan.counts site.now.lines.sums.kkt.grid.plan.wiring.now site.now.lines.sums.kkt.grid.plan.readings.now site.now.term_index.now site.now.term_coefficient.now) (emission_at k)))) sink.old sink.new }
     ensures most { sink.new.count ≤ 0x1b0_0000 }
 {
-    for k in 0..18usize {
-        put_block(site, head, next, starts, buses, sums, emission_at(k), sink);
+    let site = *site;
+    for b in EMISSION {
+        put_block(&site, *b, sink);
     }
-}
-
-// Where everything stands.
-pub fn index_of(grid: &Grid<'_>) -> KktIdx
-    ensures { Indexed grid.now.plan.counts (pieces grid.now.plan.counts grid.now.plan.wiring.now) (linear_row_count grid.now.plan.counts grid.now.plan.wiring.now grid.now.plan.readings.now) result }
-{
-    KktIdx::new(
-        grid.plan.counts,
-        piece_count(grid.plan.wiring, grid.plan.counts),
-        linear_rows(&grid.plan),
-    )
 }
 
 // Every bus's sums that are not zero, in lent arrays.
@@ -162,15 +139,15 @@ fn put_with<
     const MARKS: usize,
     const STARTS: usize,
     const CELLS: usize,
->(site: &Site<'_>, sheet: &[f64], sink: &mut Sink<'_>)
-    requires sheet_laid { SheetLaid site.now.grid.plan.counts (pieces site.now.grid.plan.counts site.now.grid.plan.wiring.now) sheet.now }
-    requires buses_bound { (site.now.grid.plan.counts.buses ≤ BUSES) × (16 + site.now.grid.plan.counts.buses ≤ MARKS) × (site.now.grid.plan.counts.buses < STARTS) }
-    requires branches_bound { (2 * site.now.grid.plan.counts.branches ≤ ENDS) × (site.now.grid.plan.counts.buses + 2 * site.now.grid.plan.counts.branches ≤ CELLS) }
+>(solved: &SolvedSite<'_>, sink: &mut Sink<'_>)
+    requires buses_bound { (solved.now.site.grid.plan.counts.buses ≤ BUSES) × (16 + solved.now.site.grid.plan.counts.buses ≤ MARKS) × (solved.now.site.grid.plan.counts.buses < STARTS) }
+    requires branches_bound { (2 * solved.now.site.grid.plan.counts.branches ≤ ENDS) × (solved.now.site.grid.plan.counts.buses + 2 * solved.now.site.grid.plan.counts.branches ≤ CELLS) }
     requires few { (BUSES ≤ 256) × (ENDS ≤ 1024) × (MARKS ≤ 272) × (STARTS ≤ 257) × (CELLS ≤ 1280) }
     requires empty { sink.old.count ≡ 0 }
-    ensures puts { Gains (kkt_matrix_list first_place site.now.grid.plan.counts site.now.grid.plan.wiring.now site.now.grid.plan.readings.now site.now.term_index.now site.now.term_coefficient.now sheet.now) sink.old sink.new }
+    ensures puts { Gains (kkt_matrix_list first_place solved.now.site.grid.plan.counts solved.now.site.grid.plan.wiring.now solved.now.site.grid.plan.readings.now solved.now.site.term_index.now solved.now.site.term_coefficient.now solved.now.sheet.now) sink.old sink.new }
     ensures most { sink.new.count ≤ 0x1b0_0000 }
 {
+    let site = solved.site;
     let mut head = [0u32; BUSES];
     let mut next = [0u32; ENDS];
     let mut acc = [0.0; BUSES];
@@ -199,27 +176,38 @@ fn put_with<
         &mut others,
         &mut sums,
     );
-    let lines = KktSite {
-        kkt: Kkt {
-            grid: site.grid,
-            sheet,
-            index: index_of(&site.grid),
-        },
+    let grid = site.grid;
+    let index = KktIdx::of(&grid.plan);
+    let sheet = solved.sheet;
+    let kkt = Kkt { grid, sheet, index };
+    let sums = KktSums {
+        kkt,
+        starts: &starts,
+        buses: &buses,
+        values: &sums,
+    };
+    let lines = KktLines {
+        sums,
+        head: &head,
+        next: &next,
+    };
+    let prepared = Prepared {
+        lines,
         term_index: site.term_index,
         term_coefficient: site.term_coefficient,
     };
-    put_blocks(&lines, &head, &next, &starts, &buses, &sums, sink);
+    put_blocks(&prepared, sink);
 }
 
 // The list into three sheets, below a limit: counted always, stored below it.
-pub fn put_kkt(site: &Site<'_>, sheet: &[f64], sink: &mut Sink<'_>)
-    requires sheet_laid { SheetLaid site.now.grid.plan.counts (pieces site.now.grid.plan.counts site.now.grid.plan.wiring.now) sheet.now }
+pub fn put_kkt(solved: &SolvedSite<'_>, sink: &mut Sink<'_>)
     requires empty { sink.old.count ≡ 0 }
-    ensures puts { Gains (kkt_matrix_list first_place site.now.grid.plan.counts site.now.grid.plan.wiring.now site.now.grid.plan.readings.now site.now.term_index.now site.now.term_coefficient.now sheet.now) sink.old sink.new }
+    ensures puts { Gains (kkt_matrix_list first_place solved.now.site.grid.plan.counts solved.now.site.grid.plan.wiring.now solved.now.site.grid.plan.readings.now solved.now.site.term_index.now solved.now.site.term_coefficient.now solved.now.sheet.now) sink.old sink.new }
     ensures most { sink.new.count ≤ 0x1b0_0000 }
 {
-    if site.grid.plan.counts.buses <= 32 && site.grid.plan.counts.branches <= 48 {
-        return put_with::<32, 96, 48, 33, 128>(site, sheet, sink);
+    let c = solved.site.grid.plan.counts;
+    if c.buses <= 32 && c.branches <= 48 {
+        return put_with::<32, 96, 48, 33, 128>(solved, sink);
     }
-    put_with::<256, 1024, 272, 257, 1280>(site, sheet, sink);
+    put_with::<256, 1024, 272, 257, 1280>(solved, sink);
 }

@@ -1,22 +1,22 @@
 -- The laws of the susceptance sums as entries: the expression is the sum, a sum is the same from either bus, and one that no branch touches is +0.
--- Main results: `balance_is`, `symmetric`, `untouched`, `unmarked`, `span_none`, `block_more`. Assumes nothing.
+-- Main results: `balance_is`, `symmetric`, `untouched`, `unmarked`, `sum_none`, `span_whole`. Assumes nothing.
 use mathlib.Core.Path.{◌≡◌, refl, sym, ap, ◌∙◌}
 use mathlib.Core.Bool.{Bool, true, false, cond, not, ◌&&◌, ◌||◌, and-false}
-use mathlib.Core.List.{List, []}
-use Prim.Native.Nat.{ℕ, zero, suc, ◌+◌, ◌-◌, ◌*◌, ◌/◌, ◌≤◌, ◌<◌, min}
+use mathlib.Core.List.{List}
+use Prim.Native.Nat.{ℕ, zero, suc, ◌+◌, ◌/◌, ◌<◌}
 use native.Mathlib.Nat.{eq-or-lt_of_le, not-suc-le-zero, le_of_suc-le-suc, zero-add}
 use native.Mathlib.Omega.{arith}
 use mathlib.Core.Logic.{⊎_elim}
 use lib.ListN.{get_or}
 use lib.Dec.{eqb}
 use lib.Ieee.{Float, nan, neg, eq, of_bits}
+use Rattle.std.specs.Prelude.{None}
 use Rattle.float64.specs.Values.{nought, add_at, sub_at}
 use Rattle.sequence.specs.Lists.{each, turns, some}
 use Rattle.sequence.specs.declared.Sink.{Sink}
 use Rattle.sequence.specs.Sheets.{emit}
 use Rattle.sequence.specs.Sinks.{Gains}
-use Rattle.sequence.proofs.Lists.{each_same, each_skip, each_add, turns_same, turns_skip, or_none}
-use Rattle.sequence.proofs.Sinks.{then}
+use Rattle.sequence.proofs.Lists.{each_same, turns_same, turns_skip, or_none}
 use Rattle.network.specs.declared.Counts.{Counts}
 use Rattle.network.specs.declared.Part.TheVariants.{BrFrom, BrTo}
 use Rattle.network.specs.Layout.{wire, reading}
@@ -141,26 +141,17 @@ module _ (c : Counts) (w : List ℕ) (r : List Float) (i : ℕ) where
       go true e = absurd (omega arith)
       go false e = refl
 
--- ---- the sums by blocks of 16
+-- ---- the sums as entries
 
-pub span_none : (less : Bool) (acc : List Float) (from col a b : ℕ) → ((i : ℕ) → i < b → get_or acc (a + i) nan ≡ nought) → span_of less acc from col a b ≡ []
-unfolding span_of emit each eq of_bits neg
-span_none true acc from col a b h = each_skip _ 0 b (omega arith) (λ i p q. rw (h i q))
-span_none false acc from col a b h = each_skip _ 0 b (omega arith) (λ i p q. rw (h i q))
+-- +0 is none
+pub sum_none : (less : Bool) (acc : List Float) (from col i : ℕ) → get_or acc i nan ≡ nought → sum_item less acc from col i ≡ None
+unfolding eq of_bits neg
+sum_none true acc from col i h = rw h
+sum_none false acc from col i h = rw h
 
--- one block more
-pub block_more : {S₀ S₁ S₂ : Sink} (less : Bool) (acc : List Float) (from col n q b : ℕ) → 16 * q ≤ n → b ≡ min (n - 16 * q) 16
-    → Gains (each (min (16 * q) n) (λ i. emit (sum_item less acc from col i))) S₀ S₁ → Gains (span_of less acc from col (16 * q) b) S₁ S₂
-    → Gains (each (min (16 * (q + 1)) n) (λ i. emit (sum_item less acc from col i))) S₀ S₂
+-- the span from 0 on
+pub span_whole : {S₀ S₁ : Sink} (less : Bool) (acc : List Float) (from col n : ℕ)
+    → Gains (each n (λ i. emit (sum_item less acc from col i))) S₀ S₁ → Gains (span_of less acc from col 0 n) S₀ S₁
 unfolding span_of
-block_more less acc from col n q b h e p s =
-    let a : min (16 * q) n ≡ 16 * q = omega arith in
-    let z : min (16 * (q + 1)) n ≡ 16 * q + b = omega arith in
-    rw (z, each_add) (then (rw a at p) s)
-
--- all blocks
-pub blocks_done : {S₀ S₁ : Sink} (less : Bool) (acc : List Float) (from col : ℕ) {m n : ℕ} → m ≡ n
-    → Gains (each m (λ i. emit (sum_item less acc from col i))) S₀ S₁ → Gains (span_of less acc from col 0 n) S₀ S₁
-unfolding span_of
-blocks_done less acc from col {m} {n} e p =
-    rw (each_same n (λ i. emit (sum_item less acc from col (0 + i))) (λ i. emit (sum_item less acc from col i)) (λ i l. rw zero-add)) (rw e at p)
+span_whole less acc from col n p =
+    rw (each_same n (λ i. emit (sum_item less acc from col (0 + i))) (λ i. emit (sum_item less acc from col i)) (λ i l. rw zero-add)) p

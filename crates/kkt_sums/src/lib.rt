@@ -8,6 +8,7 @@ ghost use Rattle.sequence.specs.Sinks.{Gains};
 ghost use Rattle.kkt.specs.Walks.{taken, sum_item, span_of};
 
 use kkt::kept;
+use sequence::marking::put_marked;
 use sequence::{Sink, Triplet};
 
 // A sum taken negatively, or as it is.
@@ -25,22 +26,6 @@ fn sum_item(acc: &[f64], col: usize, i: usize) -> Option<Triplet>
     kept(i, col, acc[i])
 }
 
-// Sums a to a + b - 1, which are all +0 where they are not on.
-fn put_sum_span(on: bool, acc: &[f64], col: usize, a: usize, b: usize, sink: &mut Sink<'_>)
-    requires b_in_bounds { (a + b ≤ length acc.now) × (a + b ≤ 256) × (col ≤ 256) }
-    requires nan_value { on ≡ false → (i : ℕ) → i < b → get_or acc.now (a + i) nan ≡ nought }
-    requires at_bound { sink.old.count < 0x1000_0000 }
-    ensures puts { Gains (span_of false acc.now 0 col a b) sink.old sink.new }
-    ensures most { sink.new.count ≤ sink.old.count + b }
-{
-    if !on {
-        return;
-    }
-    for i in 0..b {
-        sink.put(sum_item(acc, col, a + i));
-    }
-}
-
 // The first n sums, by blocks of 16: a block that is not marked has none other than +0.
 // `acc` and `hit` stay single, as where they are written (`make_row` of susceptance).
 pub fn put_sums(n: usize, acc: &[f64], hit: &[u32], col: usize, sink: &mut Sink<'_>)
@@ -50,9 +35,5 @@ pub fn put_sums(n: usize, acc: &[f64], hit: &[u32], col: usize, sink: &mut Sink<
     ensures puts { Gains (span_of false acc.now 0 col 0 n) sink.old sink.new }
     ensures most { sink.new.count ≤ sink.old.count + n }
 {
-    let blocks = (n + 15) / 16;
-    for q in 0..blocks {
-        let a = 16 * q;
-        put_sum_span(hit[q] != 0, acc, col, a, (n - a).min(16), sink);
-    }
+    put_marked(n, hit, |i| sum_item(acc, col, i), sink);
 }

@@ -14,11 +14,7 @@ pub fn segment_start(wiring: &[u32], c: Counts, j: usize) -> usize
     requires j_le_generators { j ≤ c.generators }
     ensures { (result ≡ segment_start c wiring.now j) × (result ≤ c.segments) }
 {
-    let mut at = 0;
-    for i in 0..j {
-        at += word(wiring, c, Part::Segments, i);
-    }
-    at
+    (0..j).map(|i| word(wiring, c, Part::Segments, i)).sum()
 }
 
 // Segment s at a power: slope * power + intercept.

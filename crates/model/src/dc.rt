@@ -3,7 +3,7 @@
 ghost use Rattle.std.specs.Prelude.{◌≡◌, get_or, ◌&&◌, eqb, length, ◌<◌, ◌≤◌, IfOk};
 ghost use Rattle.sequence.specs.Answers.{first_of, number_of, answered};
 ghost use Rattle.float64.specs.Values.{sheet_limit};
-ghost use Rattle.sequence.specs.Sheets.{listed, lays_if, room};
+ghost use Rattle.sequence.specs.Sheets.{listed, lays_if};
 ghost use Rattle.network.specs.Numbers.{all_within};
 ghost use Rattle.network.specs.Sites.{network_in};
 ghost use Rattle.susceptance.specs.Susceptance.{susceptance_coo};
@@ -18,7 +18,8 @@ use crate::withdrawal::{fixed_into, flow_offset_at, network_into, phase_into, sh
 use float64::sheet_limit;
 use network::check::{all_within, is_raw};
 use network::{Grid, Lent};
-use sequence::{Answer, Refusal, Sink, room};
+use sequence::laying::lay;
+use sequence::{Answer, Refusal};
 use susceptance::put_susceptance;
 
 // Numbers 5 and 7 of a call for one number: index i is below `count`, and the sheet has room for it.
@@ -106,19 +107,17 @@ fn word_or_zero(wiring: &[u32], i: usize) -> usize
     ensures { result ≡ get_or wiring.now i 0 }
 {
     if i < wiring.len() {
-        return wiring[i] as usize;
+        wiring[i] as usize
+    } else {
+        0
     }
-    0
 }
 
 // Whether there are as many flows as branches, and as many powers as generators.
 fn flows_and_powers(wiring: &[u32], f: &[f64], pg: &[f64]) -> bool
     ensures { result ≡ (eqb (length f.now) (get_or wiring.now 1 0) && eqb (length pg.now) (get_or wiring.now 2 0)) }
 {
-    if f.len() != word_or_zero(wiring, 1) {
-        return false;
-    }
-    pg.len() == word_or_zero(wiring, 2)
+    f.len() == word_or_zero(wiring, 1) && pg.len() == word_or_zero(wiring, 2)
 }
 
 // Whether flows and powers are sheet readings.
@@ -126,10 +125,7 @@ fn both_within(f: &[f64], pg: &[f64]) -> bool
     ensures { result ≡ (all_within sheet_limit f.now && all_within sheet_limit pg.now) }
 {
     let limit = sheet_limit();
-    if !all_within(f, limit) {
-        return false;
-    }
-    all_within(pg, limit)
+    all_within(f, limit) && all_within(pg, limit)
 }
 
 // A linear row's value at flows and powers.
@@ -163,43 +159,8 @@ pub fn row_kind(lent: Lent<'_>, row: usize) -> Result<RowKind, Refusal>
     Ok(row_limits(&site.grid.plan, row).kind())
 }
 
-// The susceptance list where the sheets, of which the shortest holds `cap`, hold it: counted first,
-// then written.
-// Here and in `lay_susceptance` the sheets stay single: a sink is made of them, with its limit.
-fn lay_counted(
-    grid: &Grid<'_>,
-    rows: &mut [u32],
-    cols: &mut [u32],
-    values: &mut [f64],
-    cap: usize,
-) -> Answer
-    requires { cap ≡ room rows.old cols.old values.old }
-    ensures { listed result rows.new cols.new values.new ≡ lays_if (susceptance_coo grid.now.plan.counts grid.now.plan.wiring.now grid.now.plan.readings.now) rows.old cols.old values.old }
-{
-    let mut counted = Sink {
-        rows: &mut *rows,
-        cols: &mut *cols,
-        values: &mut *values,
-        limit: 0,
-        count: 0,
-    };
-    put_susceptance(grid, &mut counted);
-    let count = counted.count;
-    if cap < count {
-        return Err(Refusal::Short);
-    }
-    let mut written = Sink {
-        rows,
-        cols,
-        values,
-        limit: count,
-        count: 0,
-    };
-    put_susceptance(grid, &mut written);
-    Ok(written.count)
-}
-
-// The same in one pass where the sheets hold four triplets for each branch, which is the most.
+// The susceptance list into three sheets: four triplets for each branch are the most.
+// The sheets stay single here and below, as C lends them.
 fn lay_susceptance(
     grid: &Grid<'_>,
     rows: &mut [u32],
@@ -208,24 +169,16 @@ fn lay_susceptance(
 ) -> Answer
     ensures { listed result rows.new cols.new values.new ≡ lays_if (susceptance_coo grid.now.plan.counts grid.now.plan.wiring.now grid.now.plan.readings.now) rows.old cols.old values.old }
 {
-    let cap = room(rows, cols, values);
-    let most = 4 * grid.plan.counts.branches;
-    if cap < most {
-        return lay_counted(grid, rows, cols, values, cap);
-    }
-    let mut sink = Sink {
+    lay(
         rows,
         cols,
         values,
-        limit: most,
-        count: 0,
-    };
-    put_susceptance(grid, &mut sink);
-    Ok(sink.count)
+        4 * grid.plan.counts.branches,
+        &|sink| put_susceptance(grid, sink),
+    )
 }
 
 // The susceptance matrix as triplets, by row, then column.
-// The sheets stay single, as C lends them.
 pub fn susceptance_coo(
     lent: Lent<'_>,
     rows: &mut [u32],

@@ -14,11 +14,9 @@ pub fn term_start(wiring: &[u32], c: Counts, q: usize) -> usize
     requires q_le_rows { q ≤ c.rows }
     ensures { (result ≡ term_start c wiring.now q) × (result ≤ c.terms) }
 {
-    let mut at = 0;
-    for i in 0..q {
-        at += word(wiring, c, Part::FlowTerms, i) + word(wiring, c, Part::GenerationTerms, i);
-    }
-    at
+    (0..q)
+        .map(|i| word(wiring, c, Part::FlowTerms, i) + word(wiring, c, Part::GenerationTerms, i))
+        .sum()
 }
 
 // The sum of `count` terms from a place on, each coefficient times the value that its index names.
@@ -38,7 +36,7 @@ fn term_sum(
     for t in 0..count {
         let k = at + t;
         let i = term_index[k] as usize;
-        sum = sum + term_coefficient[k] * xs[i];
+        sum += term_coefficient[k] * xs[i];
     }
     sum
 }

@@ -37,8 +37,8 @@ fn phase_step(out: &mut [f64], from: usize, to: usize, x: f64)
     ensures by_index { (i : ℕ) → get_or out.new i nan ≡ sub_at (eqb to i) x (add_at (eqb from i) x (get_or out.old i nan)) }
     ensures out_len_unchanged { length out.new ≡ length out.old }
 {
-    out[from] = out[from] + x;
-    out[to] = out[to] - x;
+    out[from] += x;
+    out[to] -= x;
 }
 
 // The phase-shift withdrawals into the first n words.

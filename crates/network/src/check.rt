@@ -280,7 +280,7 @@ impl<'a> Lent<'a> {
     }
 
     // The network, where none of the numbers 1 to 3 is due: of them a call's own sizes and values are tested with the
-    // network's, and say whether they hold.
+    // network's, and say whether they hold: `sizes` and `values` are what it found, not a choice of what is done.
     pub fn accept_with(self, sizes: bool, values: bool) -> Result<Site<'a>, Refusal>
         ensures number { number_of result ≡ first_of (network_tests (network_in self.entry) sizes values) }
         ensures accepted { IfOk result (SiteOf self.entry) }

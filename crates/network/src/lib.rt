@@ -8,7 +8,7 @@ pub mod site;
 
 pub use site::{Grid, Lent, Plan, Site, Wiring};
 
-// n, m, k, R, S, q, T.
+// n, m, k, R, S, q, T. They are read before they are tested against their limits, so `Few` is a clause, and no ghost field.
 #[derive(Clone, Copy)]
 pub struct Counts {
     pub buses: usize,

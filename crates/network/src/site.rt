@@ -21,7 +21,8 @@ pub struct Wiring<'a> {
     pub ghost laid: { WiringLaid counts words.now },
 }
 
-// Wiring and readings that are as long as the counts say.
+// Wiring and readings that are as long as the counts say. It holds no `Wiring`: each path into the wiring would be longer by a field,
+// and say the same.
 #[derive(Clone, Copy)]
 pub struct Plan<'a> {
     pub counts: Counts,

@@ -1,9 +1,10 @@
 -- The laws that the counting walks and the layout need: one more passed, the most of each, and a placed layout is narrow.
--- Main results: `rank_more`, `equalities_few`, `inequalities_few`, `columns_of`, `rows_of`, `nvar_few`, `ncon_few`, `narrow`. Assumes nothing.
-use mathlib.Core.Path.{◌≡◌}
-use mathlib.Core.Bool.{Bool, cond}
+-- Main results: `from_few`, `rank_more`, `equalities_few`, `inequalities_few`, `columns_of`, `rows_of`, `nvar_few`, `ncon_few`, `narrow`. Assumes nothing.
+use mathlib.Core.Path.{◌≡◌, refl}
+use mathlib.Core.Bool.{Bool, true, false, cond}
 use Prim.Native.Nat.{ℕ, ◌+◌, ◌≤◌}
 use native.Mathlib.Omega.{arith}
+use Rattle.std.specs.Int.{from_bool}
 use Rattle.sequence.proofs.Lists.{before_none, before_more}
 use Rattle.sequence.proofs.Blocks.{inside}
 use Rattle.network.specs.declared.Counts.{Counts}
@@ -21,10 +22,19 @@ pub rank_none : (on : ℕ → Bool) → 0 ≡ active_rank on 0
 unfolding active_rank
 rank_none on = before_none _
 
+-- a test as a count: 1 where it holds, 0 where it doesn't
+from_cond : (b : Bool) → from_bool b ≡ cond b 1 0
+from_cond true = refl
+from_cond false = refl
+
+pub from_few : (b : Bool) {n : ℕ} → n ≡ from_bool b → n ≤ 1
+from_few true e = omega arith
+from_few false e = omega arith
+
 -- one more passed, counted where it is active
-pub rank_more : (on : ℕ → Bool) (i : ℕ) {b : Bool} {count one : ℕ} → count ≡ active_rank on i → one ≡ cond b 1 0 → b ≡ on i → count + one ≡ active_rank on (i + 1)
+pub rank_more : (on : ℕ → Bool) (i : ℕ) {b : Bool} {count one : ℕ} → count ≡ active_rank on i → one ≡ from_bool b → b ≡ on i → count + one ≡ active_rank on (i + 1)
 unfolding active_rank
-rank_more on i e q h = rw (before_more, ← e, q, h)
+rank_more on i e q h = rw (before_more, ← e, q, h, from_cond)
 
 pub equalities_few : (l : RowLimits) → equalities l ≤ 1
 equalities_few None = omega arith

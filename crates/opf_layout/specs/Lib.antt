@@ -1,2 +1,3 @@
--- The definitions that the contracts cite: where the program's columns and rows stand. Assumes nothing.
+-- The definitions that the contracts cite: where the program's columns and rows stand, and raw vectors that are laid so. Assumes nothing.
 pub mod Layout
+pub mod Raw

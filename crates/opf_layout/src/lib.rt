@@ -1,15 +1,18 @@
 // problem/dc.rs, `OpfLayout`: where the columns and rows of the program stand.
 #![tactic(auto)]
 
-ghost use Rattle.std.specs.Prelude.{◌≡◌, cond, ◌*◌, ◌≤◌, ◌<◌};
-ghost use Rattle.network.specs.Layout.{WiringLaid, part_size};
+pub mod raw;
+
+ghost use Rattle.std.specs.Prelude.{◌≡◌, ◌*◌, ◌≤◌, ◌<◌};
+ghost use Rattle.network.specs.Layout.{part_size};
 ghost use Rattle.opf_layout.specs.Layout.{active_rank, flagged, sheds, equalities, inequalities, equality_rank, inequality_rank, active_of, Bounded, Placed, Narrow, column_in, row_in};
 
 use model::RowLimits;
 use model::rows::row_limits;
 use model::withdrawal::shed_cap_at;
-use network::layout::{part_size, word};
-use network::{Counts, Part, Plan};
+use network::layout::part_size;
+use network::{Counts, Part, Plan, Wiring};
+pub use raw::{Raw, RawPoint};
 use solution::piece_count;
 
 // The columns of the program, in order.
@@ -83,21 +86,12 @@ pub struct OpfLayout {
     pub active: Active,
 }
 
-// 1 for an active one, 0 for another.
-pub fn one_if(on: bool) -> usize
-    ensures { (result ≡ cond on 1 0) × (result ≤ 1) }
+// How many flags of a part are set. It asks for the wiring alone: a plan asks for the readings too.
+pub fn count_flags(wiring: &Wiring<'_>, p: Part) -> usize
+    ensures { (result ≡ active_rank (flagged wiring.now.counts wiring.now.words.now p) (part_size wiring.now.counts p)) × (result ≤ part_size wiring.now.counts p) }
 {
-    if on { 1 } else { 0 }
-}
-
-// How many flags of a part are set. It takes the wiring alone: a plan would ask for readings too.
-// It asks for the wiring alone: a plan asks for the readings too, and a `Wiring` would be made for the call.
-pub fn count_flags(wiring: &[u32], c: Counts, p: Part) -> usize
-    requires { WiringLaid c wiring.now }
-    ensures { (result ≡ active_rank (flagged c wiring.now p) (part_size c p)) × (result ≤ part_size c p) }
-{
-    (0..part_size(c, p))
-        .map(|i| one_if(word(wiring, c, p, i) != 0))
+    (0..part_size(wiring.counts, p))
+        .map(|i| usize::from(wiring.word(p, i) != 0))
         .sum()
 }
 
@@ -115,7 +109,7 @@ pub fn count_sheds(plan: &Plan<'_>) -> usize
     ensures { (result ≡ active_rank (sheds plan.now.counts plan.now.wiring.now plan.now.readings.now) plan.now.counts.buses) × (result ≤ plan.now.counts.buses) }
 {
     (0..plan.counts.buses)
-        .map(|i| one_if(sheds_at(plan, i)))
+        .map(|i| usize::from(sheds_at(plan, i)))
         .sum()
 }
 
@@ -162,11 +156,15 @@ pub fn count_inequalities(plan: &Plan<'_>) -> usize
 pub fn active_of(plan: &Plan<'_>) -> Active
     ensures { (result ≡ active_of plan.now.counts plan.now.wiring.now plan.now.readings.now) × Bounded plan.now.counts result }
 {
+    let wiring = Wiring {
+        counts: plan.counts,
+        words: plan.wiring,
+    };
     Active {
-        lines: count_flags(plan.wiring, plan.counts, Part::ThermalFlags),
-        generators: count_flags(plan.wiring, plan.counts, Part::GeneratorFlags),
+        lines: count_flags(&wiring, Part::ThermalFlags),
+        generators: count_flags(&wiring, Part::GeneratorFlags),
         sheds: count_sheds(plan),
-        phases: count_flags(plan.wiring, plan.counts, Part::AngleFlags),
+        phases: count_flags(&wiring, Part::AngleFlags),
         pieces: piece_count(plan.wiring, plan.counts),
         equalities: count_equalities(plan),
         inequalities: count_inequalities(plan),
@@ -230,7 +228,15 @@ impl OpfLayout {
         }
     }
 
-    // Where a block of columns starts.
+    // The layout of a plan's program, by all that is active in it.
+    pub fn of(plan: &Plan<'_>) -> OpfLayout
+        ensures placed { Placed plan.now.counts (active_of plan.now.counts plan.now.wiring.now plan.now.readings.now) result }
+        ensures bounded { Bounded plan.now.counts (active_of plan.now.counts plan.now.wiring.now plan.now.readings.now) }
+    {
+        OpfLayout::dc(plan.counts, active_of(plan))
+    }
+
+    // Where a block of columns starts. `Narrow` is a clause here and below, as at `KktIdx::start`.
     pub fn column(self, b: OpfColumn) -> usize
         requires { Narrow self }
         ensures { (result ≡ column_in self b) × (result ≤ 0x1_0000) }

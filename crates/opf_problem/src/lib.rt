@@ -1,9 +1,12 @@
 // problem/dc.rs, `assemble_opf` as a public call: the program in standard form into lent sheets.
 #![tactic(auto)]
 
-ghost use Rattle.std.specs.Prelude.{◌≡◌, ◌≤◌, length, ltb};
+ghost use Rattle.std.specs.Prelude.{◌≡◌, ◌≤◌, length, ltb, List};
+ghost use Rattle.sequence.specs.declared.Triplet.{Triplet};
+ghost use Rattle.sequence.specs.Laying.{PutsIntoEmpty, PutIs};
 ghost use Rattle.sequence.specs.Lists.{front};
-ghost use Rattle.sequence.specs.Sheets.{laid, lays, room};
+ghost use Rattle.sequence.specs.Sheets.{room};
+ghost use Rattle.sequence.specs.Sinks.{Gains};
 ghost use Rattle.network.specs.Layout.{Few};
 ghost use Rattle.network.specs.Sites.{network_in};
 ghost use Rattle.opf_problem.specs.Calls.{program, assembled, assembled_by, assembles, assemble_call};
@@ -13,9 +16,10 @@ pub mod draft;
 
 pub use draft::Draft;
 use network::{Counts, Lent};
-use opf_layout::{OpfLayout, active_of};
+use opf_layout::OpfLayout;
 use opf_matrix::{put_a, put_p};
 use opf_sides::{cone_count, put_b, put_cones, put_q};
+use sequence::laying::{counted, written};
 use sequence::{Refusal, Sink, room};
 
 // How many triplets of A and of P were written.
@@ -35,35 +39,25 @@ pub struct Rooms {
     pub cones: usize,
 }
 
-// How many triplets A has.
-fn count_a(draft: &Draft<'_>) -> usize
-    ensures { result ≡ length (parts_in draft.now).a }
-{
-    let mut sink = Sink {
-        rows: &mut [],
-        cols: &mut [],
-        values: &mut [],
-        limit: 0,
-        count: 0,
-    };
-    put_a(&draft.site, draft.layout, &mut sink);
-    sink.count
-}
+impl Draft<'_> {
+    // P's triplets, into an empty sink.
+    #[inline(always)]
+    fn put_p(&self, sink: &mut Sink<'_>)
+        requires { sink.old.count ≡ 0 }
+        ensures { Gains (parts_in self.now).p sink.old sink.new }
+    {
+        let plan = self.site.grid.plan;
+        put_p(plan.readings, plan.counts, self.layout, sink);
+    }
 
-// How many P has.
-fn count_p(draft: &Draft<'_>) -> usize
-    ensures { result ≡ length (parts_in draft.now).p }
-{
-    let mut sink = Sink {
-        rows: &mut [],
-        cols: &mut [],
-        values: &mut [],
-        limit: 0,
-        count: 0,
-    };
-    let plan = draft.site.grid.plan;
-    put_p(plan.readings, plan.counts, draft.layout, &mut sink);
-    sink.count
+    // A's triplets, into an empty sink.
+    #[inline(always)]
+    fn put_a(&self, sink: &mut Sink<'_>)
+        requires { sink.old.count ≡ 0 }
+        ensures { Gains (parts_in self.now).a sink.old sink.new }
+    {
+        put_a(&self.site, self.layout, sink);
+    }
 }
 
 // The most triplets that A can have.
@@ -74,24 +68,15 @@ fn most_a(c: Counts) -> usize
     3 * c.buses + 3 * c.generators + 13 * c.branches + c.references + 2 * c.segments + 2 * c.terms
 }
 
-// Whether A's triplets have no room; they are counted only where the most that there can be have none.
-fn a_is_short(draft: &Draft<'_>, room: usize) -> bool
-    ensures { result ≡ ltb room (length (parts_in draft.now).a) }
+// Whether triplets have no room; they are counted only where the most that there can be have none.
+fn is_over<P: Fn(&mut Sink<'_>)>(most: usize, room: usize, put: &P) -> bool
+    requires { PutsIntoEmpty (P.pre put.now) }
+    ensures { (ts : List Triplet) → PutIs (P.post put.now) ts → length ts ≤ most → result ≡ ltb room (length ts) }
 {
-    if most_a(draft.site.grid.plan.counts) <= room {
+    if most <= room {
         return false;
     }
-    room < count_a(draft)
-}
-
-// Whether P's have none.
-fn p_is_short(draft: &Draft<'_>, room: usize) -> bool
-    ensures { result ≡ ltb room (length (parts_in draft.now).p) }
-{
-    if draft.site.grid.plan.counts.generators <= room {
-        return false;
-    }
-    room < count_p(draft)
+    room < counted(put)
 }
 
 // Whether a sheet is shorter than its result.
@@ -107,46 +92,11 @@ fn is_short(draft: &Draft<'_>, rooms: Rooms) -> bool
     if rooms.cones < cone_count(draft.layout) {
         return true;
     }
-    if p_is_short(draft, rooms.p) {
+    let c = draft.site.grid.plan.counts;
+    if is_over(c.generators, rooms.p, &|sink| draft.put_p(sink)) {
         return true;
     }
-    a_is_short(draft, rooms.a)
-}
-
-// P's triplets, which fit.
-// Here, in `lay_a` and in `lay_program` the sheets stay single: a sink is made of each three, with its limit.
-fn lay_p(draft: &Draft<'_>, rows: &mut [u32], cols: &mut [u32], values: &mut [f64]) -> usize
-    requires { length (parts_in draft.now).p ≤ room rows.old cols.old values.old }
-    ensures { laid 0 result rows.new cols.new values.new ≡ lays 0 (parts_in draft.now).p rows.old cols.old values.old }
-{
-    let limit = room(rows, cols, values);
-    let mut sink = Sink {
-        rows,
-        cols,
-        values,
-        limit,
-        count: 0,
-    };
-    let plan = draft.site.grid.plan;
-    put_p(plan.readings, plan.counts, draft.layout, &mut sink);
-    sink.count
-}
-
-// A's triplets, which fit.
-fn lay_a(draft: &Draft<'_>, rows: &mut [u32], cols: &mut [u32], values: &mut [f64]) -> usize
-    requires { length (parts_in draft.now).a ≤ room rows.old cols.old values.old }
-    ensures { laid 0 result rows.new cols.new values.new ≡ lays 0 (parts_in draft.now).a rows.old cols.old values.old }
-{
-    let limit = room(rows, cols, values);
-    let mut sink = Sink {
-        rows,
-        cols,
-        values,
-        limit,
-        count: 0,
-    };
-    put_a(&draft.site, draft.layout, &mut sink);
-    sink.count
+    is_over(most_a(c), rooms.a, &|sink| draft.put_a(sink))
 }
 
 // q, b and the cones' sizes, which fit.
@@ -162,6 +112,7 @@ fn lay_sides(draft: &Draft<'_>, q: &mut [f64], b: &mut [f64], sizes: &mut [u32])
 }
 
 // Every part, which fit.
+// The sheets stay single: a sink is made of each three where it is used.
 fn lay_program(
     draft: &Draft<'_>,
     p_rows: &mut [u32],
@@ -178,8 +129,10 @@ fn lay_program(
     requires readings_in_bounds { (length (parts_in draft.now).q ≤ length q.old) × (length (parts_in draft.now).b ≤ length b.old) × (length (parts_in draft.now).cones ≤ length sizes.old) }
     ensures { assembled 0 result.a result.p (program p_rows.new p_cols.new p_values.new a_rows.new a_cols.new a_values.new q.new b.new sizes.new) ≡ assembles 0 (parts_in draft.now) (program p_rows.old p_cols.old p_values.old a_rows.old a_cols.old a_values.old q.old b.old sizes.old) }
 {
-    let p = lay_p(draft, p_rows, p_cols, p_values);
-    let a = lay_a(draft, a_rows, a_cols, a_values);
+    let p_room = room(p_rows, p_cols, p_values);
+    let p = written(p_rows, p_cols, p_values, p_room, &|sink| draft.put_p(sink));
+    let a_room = room(a_rows, a_cols, a_values);
+    let a = written(a_rows, a_cols, a_values, a_room, &|sink| draft.put_a(sink));
     lay_sides(draft, q, b, sizes);
     Written { a, p }
 }
@@ -201,8 +154,7 @@ pub fn assemble_opf(
     ensures { assembled_by result (program p_rows.new p_cols.new p_values.new a_rows.new a_cols.new a_values.new q.new b.new sizes.new) ≡ assemble_call (network_in lent.entry) (program p_rows.old p_cols.old p_values.old a_rows.old a_cols.old a_values.old q.old b.old sizes.old) }
 {
     let site = lent.accept()?;
-    let c = site.grid.plan.counts;
-    let layout = OpfLayout::dc(c, active_of(&site.grid.plan));
+    let layout = OpfLayout::of(&site.grid.plan);
     let rooms = Rooms {
         p: room(p_rows, p_cols, p_values),
         a: room(a_rows, a_cols, a_values),

@@ -1,26 +1,28 @@
 -- The laws of `triplets_by`: it goes over appended lists, loops and choices; entries put by value are those that the specification names.
--- Main results: `written_append`, `written_each`, `written_same`, `puts_then`, `puts_more`, `meant_put`, `one_put`, `two_put`, `four_put`. Assumes nothing.
+-- Main results: `written_append`, `written_each`, `written_same`, `puts_then`, `puts_more`, `items_are`, `all_put`, `meant_put`, `one_put`. Assumes nothing.
 use mathlib.Core.Path.{◌≡◌, refl, sym, ◌∙◌}
 use mathlib.Core.Bool.{Bool, true, false}
 use mathlib.Core.List.{List, [], ◌∷◌, ◌++◌, append-nil, append_assoc}
 use Prim.Native.Nat.{ℕ, zero, suc, ◌+◌, ◌≤◌}
 use lib.Ieee.{Float}
+use Rattle.std.specs.Prelude.{Option}
 use Rattle.sequence.specs.Lists.{each, when}
 use Rattle.sequence.specs.declared.Triplet.{Triplet}
 use Rattle.sequence.specs.declared.Sink.{Sink}
 use Rattle.sequence.specs.Sheets.{emit}
 use Rattle.sequence.specs.Sinks.{Gains}
 use Rattle.sequence.proofs.Sinks.{none, begin, more, done, then}
+use Rattle.network.specs.declared.Counts.{Counts}
 use Rattle.network.specs.declared.Field.{Field}
+use Rattle.network.specs.Layout.{reading}
 use Rattle.solution.specs.declared.Entry.{Entry}
 use Rattle.opf_layout.specs.declared.OpfColumn.{OpfColumn}
 use Rattle.opf_layout.specs.declared.OpfRow.{OpfRow}
 use Rattle.opf_layout.specs.declared.OpfLayout.{OpfLayout}
 use Rattle.opf_layout.specs.Layout.{column_in, row_in}
-use Rattle.opf_program.specs.declared.Cell.{Cell}
-use Rattle.program_builder.specs.Builder.{kept}
-use Rattle.opf_assembly.specs.Assembly.{Coefficient, item_by, triplets_by}
-use Rattle.opf_program.specs.Walks.{cell_of, cell_item}
+use Rattle.kkt.specs.Walks.{emits}
+use Rattle.opf_assembly.specs.Assembly.{blank, Coefficient, item_by, triplets_by}
+use Rattle.opf_program.specs.Walks.{items, written}
 
 module _ (row_at : OpfRow → ℕ) (column_at : OpfColumn → ℕ) (R : Field → ℕ → Float) (S : Entry → ℕ → Float) where
   abbrev out : List Coefficient → List Triplet
@@ -62,48 +64,25 @@ written_same R S p q (k ∷ ks) = rw (p k.row.0, q k.col.0, written_same R S p q
 
 -- ---- entries by value
 
--- one that is meant is `a`'s, by where its blocks start; one that is not is nothing
-module _ (x : OpfLayout) {on : Bool} {S₀ : Sink} where
-  pub meant_put : {S₁ : Sink} (s : Cell) {i j : ℕ} → on ≡ true → i ≡ row_in x s.row → j ≡ column_in x s.col → Gains (kept (i + s.i) (j + s.j) s.value) S₀ S₁
-      → Gains (emit (cell_item x on s)) S₀ S₁
-  meant_put s e f g p = rw e (rw (f, g) at p)
+module _ (x : OpfLayout) (c : Counts) (r : List Float) where
+  -- what is put of entries, each a triplet or none, is what is written of them
+  pub items_are : (ks : List Coefficient) → emits (items x c r ks) ≡ written x c r ks
+  unfolding emits triplets_by
+  items_are [] = refl
+  items_are (k ∷ ks) = rw (items_are ks)
 
-  pub unmeant_put : (s : Cell) → on ≡ false → Gains (emit (cell_item x on s)) S₀ S₀
-  unfolding emit when
-  unmeant_put s e = rw e none
+  pub all_put : {ts : List (Option Triplet)} {S₀ S₁ : Sink} (ks : List Coefficient) → ts ≡ items x c r ks → Gains (emits ts) S₀ S₁ → Gains (written x c r ks) S₀ S₁
+  all_put ks e p = rw (← items_are ks) (rw e at p)
 
-module _ (x : OpfLayout) (R : Field → ℕ → Float) (S : Entry → ℕ → Float) {S₀ S₁ : Sink} where
-  pub one_put : (on : Bool) (k : Coefficient) {s : Cell} → s ≡ cell_of R S k → Gains (emit (cell_item x on s)) S₀ S₁ → Gains (triplets_by (row_in x) (column_in x) R S (when on (k ∷ []))) S₀ S₁
-  unfolding triplets_by when emit
-  one_put true k e p = rw append-nil (rw e at p)
-  one_put false k e p = p
-
-  pub two_put : (on : Bool) (k m : Coefficient) {s t : Cell} → s ≡ cell_of R S k → t ≡ cell_of R S m
-      → Gains (emit (cell_item x on s) ++ emit (cell_item x on t)) S₀ S₁ → Gains (triplets_by (row_in x) (column_in x) R S (when on (k ∷ m ∷ []))) S₀ S₁
-  unfolding triplets_by when emit
-  two_put true k m e f p = rw append-nil (rw (e, f) at p)
-  two_put false k m e f p = p
-
-  pub pair_put : (k m : Coefficient) {s t : Cell} → s ≡ cell_of R S k → t ≡ cell_of R S m
-      → Gains (emit (cell_item x true s) ++ emit (cell_item x true t)) S₀ S₁ → Gains (triplets_by (row_in x) (column_in x) R S (k ∷ m ∷ [])) S₀ S₁
+  -- those that are meant, and those that are not
+  pub meant_put : {on : Bool} {S₀ S₁ : Sink} (ks : List Coefficient) → on ≡ true → Gains (written x c r ks) S₀ S₁ → Gains (written x c r (when on ks)) S₀ S₁
   unfolding when
-  pair_put k m e f p = two_put true k m e f p
+  meant_put ks e p = rw e p
 
-  pub single_put : (k : Coefficient) {s : Cell} → s ≡ cell_of R S k → Gains (emit (cell_item x true s)) S₀ S₁ → Gains (triplets_by (row_in x) (column_in x) R S (k ∷ [])) S₀ S₁
-  unfolding when
-  single_put k e p = one_put true k e p
+  pub unmeant_put : {on : Bool} {S₀ : Sink} (ks : List Coefficient) → on ≡ false → Gains (written x c r (when on ks)) S₀ S₀
+  unfolding when triplets_by
+  unmeant_put ks e = rw e none
 
-  pub three_put : (k m n : Coefficient)
-      → Gains (emit (cell_item x true (cell_of R S k)) ++ (emit (cell_item x true (cell_of R S m)) ++ emit (cell_item x true (cell_of R S n)))) S₀ S₁ → Gains (triplets_by (row_in x) (column_in x) R S (k ∷ m ∷ n ∷ [])) S₀ S₁
+  pub one_put : {t : Option Triplet} {S₀ S₁ : Sink} (k : Coefficient) → t ≡ item_by (row_in x) (column_in x) (reading c r) blank k → Gains (emit t) S₀ S₁ → Gains (written x c r (k ∷ [])) S₀ S₁
   unfolding triplets_by
-  three_put k m n p = rw append-nil p
-
--- four entries, two by two
-pub four_put : (x : OpfLayout) (R : Field → ℕ → Float) (S : Entry → ℕ → Float) {S₀ S₁ S₂ : Sink} (on : Bool) (k m n o : Coefficient)
-    → Gains (emit (cell_item x on (cell_of R S k)) ++ emit (cell_item x on (cell_of R S m))) S₀ S₁
-    → Gains (emit (cell_item x on (cell_of R S n)) ++ emit (cell_item x on (cell_of R S o))) S₁ S₂
-    → Gains (triplets_by (row_in x) (column_in x) R S (when on (k ∷ m ∷ n ∷ o ∷ []))) S₀ S₂
-unfolding triplets_by when emit
-four_put x R S true k m n o p q =
-    puts_then (row_in x) (column_in x) R S (k ∷ m ∷ []) (n ∷ o ∷ []) (pair_put x R S k m refl refl p) (pair_put x R S n o refl refl q)
-four_put x R S false k m n o p q = then p q
+  one_put k e p = rw append-nil (rw e at p)

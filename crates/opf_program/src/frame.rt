@@ -13,7 +13,8 @@ pub struct Opf<'a> {
     pub ghost narrow: { Narrow layout },
 }
 
-// The same with the terms of the linear rows.
+// The same with the terms of the linear rows. It holds no `Site`, which would hold the grid a second time, with a clause
+// that both are one.
 #[derive(Clone, Copy)]
 pub struct OpfSite<'a> {
     pub opf: Opf<'a>,

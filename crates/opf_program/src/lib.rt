@@ -1,39 +1,26 @@
-// problem/dc.rs, `assemble_opf`: entries of A into a sink, and those of a branch, in the Rust's order of writing.
+// problem/dc.rs, `assemble_opf`: entries of A as triplets, and those of a branch into a sink, in the Rust's order of writing.
 #![tactic(auto)]
 
-ghost use Rattle.std.specs.Prelude.{◌≡◌, true, ◌++◌, ◌+◌, ◌<◌, ◌≤◌};
+ghost use Rattle.std.specs.Prelude.{◌≡◌, [], ◌∷◌, ◌+◌, ◌<◌, ◌≤◌};
 ghost use Rattle.std.specs.Float.Ieee.{neg};
 ghost use Rattle.float64.specs.Values.{one};
-ghost use Rattle.sequence.specs.Lists.{when};
-ghost use Rattle.sequence.specs.Sheets.{emit};
 ghost use Rattle.sequence.specs.Sinks.{Gains};
 ghost use Rattle.network.specs.declared.Part.TheVariants.{ThermalFlags, AngleFlags};
 ghost use Rattle.network.specs.Layout.{reading};
 ghost use Rattle.snapping.specs.Expr.{eval};
 ghost use Rattle.kkt.specs.Slots.{weight_of};
-ghost use Rattle.opf_layout.specs.declared.OpfColumn.TheVariants.{Va, Flow};
-ghost use Rattle.opf_layout.specs.declared.OpfRow.TheVariants.{FlowRow};
-ghost use Rattle.opf_layout.specs.Layout.{active_rank, flagged, Narrow};
+ghost use Rattle.opf_layout.specs.Layout.{active_rank, flagged};
 ghost use Rattle.opf_assembly.specs.Assembly.{blank, branch_own, phase_entries, branch_entries};
-ghost use Rattle.opf_program.specs.Walks.{cell, cell_item, Low, written_at};
+ghost use Rattle.opf_program.specs.Walks.{entry_in, items_at, written_at};
 
 pub mod frame;
 
 pub use frame::{Opf, OpfSite};
+use kkt::put_all;
 use network::{Field, Part, Plan};
-use opf_layout::{OpfColumn, OpfLayout, OpfRow};
+use opf_layout::{OpfColumn, OpfRow};
 use program_builder::a;
-use sequence::Sink;
-
-// An entry of A by value: a row and a column by block and index, and its value.
-#[derive(Clone, Copy)]
-pub struct Cell {
-    pub row: OpfRow,
-    pub i: usize,
-    pub col: OpfColumn,
-    pub j: usize,
-    pub value: f64,
-}
+use sequence::{Sink, Triplet};
 
 // The weight of branch e.
 fn weight(plan: &Plan<'_>, e: usize) -> f64
@@ -45,230 +32,98 @@ fn weight(plan: &Plan<'_>, e: usize) -> f64
     -b * sw
 }
 
-// One entry.
-pub fn put_cell(lay: OpfLayout, on: bool, s: Cell, sink: &mut Sink<'_>)
-    requires narrow { Narrow lay }
-    requires low { Low s }
-    requires few { sink.old.count < 0x4000_0000 }
-    ensures puts { Gains (emit (cell_item lay on s)) sink.old sink.new }
-    ensures most { sink.new.count ≤ sink.old.count + 1 }
-{
-    if on {
-        let block = s.row;
-        let kind = s.col;
-        let r = lay.row(block) + s.i;
-        let c = lay.column(kind) + s.j;
-        return a(sink, r, c, s.value);
+impl Opf<'_> {
+    // The entry of a block's row i and a block's column j: none where its value is zero.
+    #[inline(always)]
+    pub fn entry(
+        &self,
+        row: OpfRow,
+        i: usize,
+        col: OpfColumn,
+        j: usize,
+        value: f64,
+    ) -> Option<Triplet>
+        requires { (i ≤ 0x1_0000) × (j ≤ 0x1_0000) }
+        ensures { result ≡ entry_in self.now.layout row i col j value }
+    {
+        a(self.layout.row(row) + i, self.layout.column(col) + j, value)
+    }
+
+    // Both sides of a limit: + in the upper row, - in the lower.
+    #[inline(always)]
+    pub fn sides(
+        &self,
+        ub: OpfRow,
+        lb: OpfRow,
+        i: usize,
+        col: OpfColumn,
+        j: usize,
+    ) -> [Option<Triplet>; 2]
+        requires { (i ≤ 0x1_0000) × (j ≤ 0x1_0000) }
+        ensures { result ≡ entry_in self.now.layout ub i col j one ∷ entry_in self.now.layout lb i col j (neg one) ∷ [] }
+    {
+        [
+            self.entry(ub, i, col, j, 1.0),
+            self.entry(lb, i, col, j, -1.0),
+        ]
+    }
+
+    // Branch e's entries in the balances of its ends and in its flow's definition.
+    #[inline(always)]
+    fn own(&self, e: usize) -> [Option<Triplet>; 7]
+        requires { e < self.now.grid.plan.counts.branches }
+        ensures { result ≡ items_at self.now (branch_own self.now.grid.plan.counts self.now.grid.plan.wiring.now self.now.grid.plan.readings.now e) }
+    {
+        let w = weight(&self.grid.plan, e);
+        let fb = self.grid.word(Part::BrFrom, e);
+        let tb = self.grid.word(Part::BrTo, e);
+        [
+            self.entry(OpfRow::Balance, fb, OpfColumn::Va, fb, -w),
+            self.entry(OpfRow::Balance, tb, OpfColumn::Va, tb, -w),
+            self.entry(OpfRow::Balance, fb, OpfColumn::Va, tb, w),
+            self.entry(OpfRow::Balance, tb, OpfColumn::Va, fb, w),
+            self.entry(OpfRow::FlowRow, e, OpfColumn::Flow, e, 1.0),
+            self.entry(OpfRow::FlowRow, e, OpfColumn::Va, fb, -w),
+            self.entry(OpfRow::FlowRow, e, OpfColumn::Va, tb, w),
+        ]
+    }
+
+    // Branch e's angle limits, which are active and have a rank among them.
+    #[inline(always)]
+    fn phase(&self, e: usize, rank: usize) -> [Option<Triplet>; 4]
+        requires { (e < self.now.grid.plan.counts.branches) × (rank ≡ active_rank (flagged self.now.grid.plan.counts self.now.grid.plan.wiring.now AngleFlags) e) × (rank ≤ 0x1_0000) }
+        ensures { result ≡ items_at self.now (phase_entries self.now.grid.plan.counts self.now.grid.plan.wiring.now self.now.grid.plan.readings.now e) }
+    {
+        let sw = self.grid.reading(Field::Sw, e);
+        let fb = self.grid.word(Part::BrFrom, e);
+        let tb = self.grid.word(Part::BrTo, e);
+        [
+            self.entry(OpfRow::PhaseUb, rank, OpfColumn::Va, fb, sw),
+            self.entry(OpfRow::PhaseUb, rank, OpfColumn::Va, tb, -sw),
+            self.entry(OpfRow::PhaseLb, rank, OpfColumn::Va, fb, -sw),
+            self.entry(OpfRow::PhaseLb, rank, OpfColumn::Va, tb, sw),
+        ]
     }
 }
 
-// Two entries.
-pub fn put_cells(lay: OpfLayout, on: bool, s: Cell, t: Cell, sink: &mut Sink<'_>)
-    requires narrow { Narrow lay }
-    requires low { Low s × Low t }
-    requires at_bound { sink.old.count < 0x2000_0000 }
-    ensures puts { Gains (emit (cell_item lay on s) ++ emit (cell_item lay on t)) sink.old sink.new }
-    ensures most { sink.new.count ≤ sink.old.count + 2 }
-{
-    put_cell(lay, on, s, sink);
-    put_cell(lay, on, t, sink);
-}
-
-// Both sides of a limit: + in the upper row, - in the lower.
-pub fn put_sides(
-    lay: OpfLayout,
-    on: bool,
-    ub: OpfRow,
-    lb: OpfRow,
-    i: usize,
-    col: OpfColumn,
-    j: usize,
-    sink: &mut Sink<'_>,
-)
-    requires narrow { Narrow lay }
-    requires i_bound { (i ≤ 0x1_0000) × (j ≤ 0x1_0000) × (sink.old.count < 0x2000_0000) }
-    ensures puts { Gains (emit (cell_item lay on (cell ub i col j one)) ++ emit (cell_item lay on (cell lb i col j (neg one)))) sink.old sink.new }
-    ensures most { sink.new.count ≤ sink.old.count + 2 }
-{
-    put_cells(
-        lay,
-        on,
-        Cell {
-            row: ub,
-            i,
-            col,
-            j,
-            value: 1.0,
-        },
-        Cell {
-            row: lb,
-            i,
-            col,
-            j,
-            value: -1.0,
-        },
-        sink,
-    );
-}
-
-// Branch e's entries in the balances of its ends and in its flow's definition.
-fn put_own(opf: &Opf<'_>, e: usize, sink: &mut Sink<'_>)
-    requires { (e < opf.now.grid.plan.counts.branches) × (sink.old.count < 0x1000_0000) }
-    ensures puts { Gains (written_at opf.now (branch_own opf.now.grid.plan.counts opf.now.grid.plan.wiring.now opf.now.grid.plan.readings.now e)) sink.old sink.new }
-    ensures most { sink.new.count ≤ sink.old.count + 7 }
-{
-    let w = weight(&opf.grid.plan, e);
-    let fb = opf.grid.word(Part::BrFrom, e);
-    let tb = opf.grid.word(Part::BrTo, e);
-    put_cells(
-        opf.layout,
-        true,
-        Cell {
-            row: OpfRow::Balance,
-            i: fb,
-            col: OpfColumn::Va,
-            j: fb,
-            value: -w,
-        },
-        Cell {
-            row: OpfRow::Balance,
-            i: tb,
-            col: OpfColumn::Va,
-            j: tb,
-            value: -w,
-        },
-        sink,
-    );
-    put_cells(
-        opf.layout,
-        true,
-        Cell {
-            row: OpfRow::Balance,
-            i: fb,
-            col: OpfColumn::Va,
-            j: tb,
-            value: w,
-        },
-        Cell {
-            row: OpfRow::Balance,
-            i: tb,
-            col: OpfColumn::Va,
-            j: fb,
-            value: w,
-        },
-        sink,
-    );
-    put_flow(opf.layout, e, fb, tb, w, sink);
-}
-
-// Branch e's entries in its flow's definition, by its ends and its weight.
-fn put_flow(lay: OpfLayout, e: usize, fb: usize, tb: usize, w: f64, sink: &mut Sink<'_>)
-    requires narrow { Narrow lay }
-    requires e_bound { (e ≤ 0x1_0000) × (fb ≤ 0x1_0000) × (tb ≤ 0x1_0000) × (sink.old.count < 0x1800_0000) }
-    ensures puts { Gains (emit (cell_item lay true (cell FlowRow e Flow e one)) ++ (emit (cell_item lay true (cell FlowRow e Va fb (neg w))) ++ emit (cell_item lay true (cell FlowRow e Va tb w)))) sink.old sink.new }
-    ensures most { sink.new.count ≤ sink.old.count + 3 }
-{
-    put_cell(
-        lay,
-        true,
-        Cell {
-            row: OpfRow::FlowRow,
-            i: e,
-            col: OpfColumn::Flow,
-            j: e,
-            value: 1.0,
-        },
-        sink,
-    );
-    put_cells(
-        lay,
-        true,
-        Cell {
-            row: OpfRow::FlowRow,
-            i: e,
-            col: OpfColumn::Va,
-            j: fb,
-            value: -w,
-        },
-        Cell {
-            row: OpfRow::FlowRow,
-            i: e,
-            col: OpfColumn::Va,
-            j: tb,
-            value: w,
-        },
-        sink,
-    );
-}
-
-// Branch e's angle limits, which have a rank among them, where they are active.
-fn put_phase(opf: &Opf<'_>, e: usize, rank: usize, sink: &mut Sink<'_>)
-    requires { (e < opf.now.grid.plan.counts.branches) × (rank ≡ active_rank (flagged opf.now.grid.plan.counts opf.now.grid.plan.wiring.now AngleFlags) e) × (rank ≤ 0x1_0000) × (sink.old.count < 0x1000_0000) }
-    ensures puts { Gains (written_at opf.now (when (flagged opf.now.grid.plan.counts opf.now.grid.plan.wiring.now AngleFlags e) (phase_entries opf.now.grid.plan.counts opf.now.grid.plan.wiring.now opf.now.grid.plan.readings.now e))) sink.old sink.new }
-    ensures most { sink.new.count ≤ sink.old.count + 4 }
-{
-    let on = opf.grid.word(Part::AngleFlags, e) != 0;
-    let sw = opf.grid.reading(Field::Sw, e);
-    let fb = opf.grid.word(Part::BrFrom, e);
-    let tb = opf.grid.word(Part::BrTo, e);
-    put_cells(
-        opf.layout,
-        on,
-        Cell {
-            row: OpfRow::PhaseUb,
-            i: rank,
-            col: OpfColumn::Va,
-            j: fb,
-            value: sw,
-        },
-        Cell {
-            row: OpfRow::PhaseUb,
-            i: rank,
-            col: OpfColumn::Va,
-            j: tb,
-            value: -sw,
-        },
-        sink,
-    );
-    put_cells(
-        opf.layout,
-        on,
-        Cell {
-            row: OpfRow::PhaseLb,
-            i: rank,
-            col: OpfColumn::Va,
-            j: fb,
-            value: -sw,
-        },
-        Cell {
-            row: OpfRow::PhaseLb,
-            i: rank,
-            col: OpfColumn::Va,
-            j: tb,
-            value: sw,
-        },
-        sink,
-    );
-}
-
-// Branch e: its own entries, then its thermal and its angle limits.
+// Branch e: its own entries, then its thermal and its angle limits, where they are active.
+// What takes a sink is inlined up to where the sink is made: out of line, each triplet would reload the sheets' places
+// from it, and the assembly would take three times as long.
+#[inline(always)]
 pub fn put_branch(opf: &Opf<'_>, e: usize, line: usize, phase: usize, sink: &mut Sink<'_>)
     requires e_lt_branches { (e < opf.now.grid.plan.counts.branches) × (sink.old.count < 0x800_0000) }
     requires line_value { (line ≡ active_rank (flagged opf.now.grid.plan.counts opf.now.grid.plan.wiring.now ThermalFlags) e) × (line ≤ 0x1_0000) × (phase ≡ active_rank (flagged opf.now.grid.plan.counts opf.now.grid.plan.wiring.now AngleFlags) e) × (phase ≤ 0x1_0000) }
     ensures puts { Gains (written_at opf.now (branch_entries opf.now.grid.plan.counts opf.now.grid.plan.wiring.now opf.now.grid.plan.readings.now e)) sink.old sink.new }
     ensures most { sink.new.count ≤ sink.old.count + 13 }
 {
-    let on = opf.grid.word(Part::ThermalFlags, e) != 0;
-    put_own(opf, e, sink);
-    put_sides(
-        opf.layout,
-        on,
-        OpfRow::LineUb,
-        OpfRow::LineLb,
-        line,
-        OpfColumn::Flow,
-        e,
-        sink,
-    );
-    put_phase(opf, e, phase, sink);
+    put_all(sink, opf.own(e));
+    if opf.grid.word(Part::ThermalFlags, e) != 0 {
+        put_all(
+            sink,
+            opf.sides(OpfRow::LineUb, OpfRow::LineLb, line, OpfColumn::Flow, e),
+        );
+    }
+    if opf.grid.word(Part::AngleFlags, e) != 0 {
+        put_all(sink, opf.phase(e, phase));
+    }
 }

@@ -1,50 +1,58 @@
 -- Each block lies within its raw vector, and what a walk over it leaves is the definition's entry.
--- Main results: `column_room`, `row_room`; `of_va` to `of_objective`; `entry_long`, `sheet_is`, `read_long`. Assumes nothing.
+-- Main results: `columns_block`, `rows_block`; `entry_is`, `picked_entry`, `duals_entry`, `costs_are`; `entry_long`, `sheet_is`, `read_long`. Assumes nothing.
 use mathlib.Core.Path.{◌≡◌, refl, sym, ap, ◌∙◌}
-use mathlib.Core.List.{List}
+use mathlib.Core.Bool.{Bool, true, false, cond}
+use mathlib.Core.List.{List, [], ◌∷◌}
 use Prim.Native.Nat.{ℕ, ◌+◌, ◌≤◌, ◌<◌}
-use native.Mathlib.Nat.{add_assoc}
+use native.Mathlib.Nat.{add-zero}
 use native.Mathlib.Omega.{arith}
-use lib.ListN.{length, get_or, set}
-use lib.Seq.{sets, ext_get_or}
-use lib.Ieee.{Float, nan}
+use lib.ListN.{length, get_or, set, drop}
+use lib.Seq.{ext_get_or}
+use lib.Dec.{eqb}
+use lib.Ieee.{Float, nan, binary64, neg, add, sub}
+use Rattle.float64.specs.Values.{nought}
+use Rattle.std.proofs.lemmas.List.{get_or-drop}
 use Rattle.sequence.specs.Lists.{made, each}
-use Rattle.sequence.proofs.Lists.{made_length, made_at, made_same, each_long}
+use Rattle.sequence.proofs.Lists.{made_length, made_at, made_same, turns_same, each_long}
 use Rattle.sequence.proofs.Blocks.{before_start}
 use Rattle.network.specs.declared.Counts.{Counts}
-use Rattle.network.specs.declared.Part.TheVariants.{GeneratorFlags, ThermalFlags, AngleFlags}
+use Rattle.network.specs.declared.Field.TheVariants.{CShed}
+use Rattle.network.specs.Layout.{objective, reading}
 use Rattle.model.specs.declared.RowLimits.{RowLimits}
 use Rattle.model.specs.declared.RowLimits.TheVariants.{None, Upper, Lower, Both, Equal}
 use Rattle.model.specs.Rows.{row_limits}
-use Rattle.model.specs.Quantities.{evaluate}
+use Rattle.model.specs.Quantities.{generator_cost, evaluate}
 use Rattle.solution.specs.declared.Entry.{Entry}
-use Rattle.solution.specs.declared.Entry.TheVariants.{Va, Pg, Flow, Psh, NuBal, LamUb, LamLb, RhoUb, RhoLb, MuUb, MuLb, GammaUb, GammaLb, Epigraph, SegmentDual, LinearDual, LinearValue, Objective}
+use Rattle.solution.specs.declared.Entry.TheVariants.{Va}
 use Rattle.solution.specs.Sheet.{entries, size, sizes, pieces, sheet_length}
 use Rattle.snapping.proofs.Rows.{part, part_length, part_at}
 use Rattle.snapping.proofs.Words.{entry_size}
+use Rattle.opf_layout.specs.declared.Active.{Active}
 use Rattle.opf_layout.specs.declared.OpfColumn.{OpfColumn}
 use Rattle.opf_layout.specs.declared.OpfColumn.TheVariants as columns
 use Rattle.opf_layout.specs.declared.OpfRow.{OpfRow}
 use Rattle.opf_layout.specs.declared.OpfRow.TheVariants as rows
 use Rattle.opf_layout.specs.declared.OpfLayout.{OpfLayout}
-use Rattle.opf_layout.specs.Layout.{flagged, sheds, equality_rank, inequality_rank, active_of, column_in, column_size, column_start, row_in, row_size, row_start, Bounded}
+use Rattle.opf_layout.specs.declared.raw.RawPoint.{RawPoint}
+use Rattle.opf_layout.specs.Layout.{active_rank, equalities, inequalities, equality_rank, inequality_rank, active_of, column_in, column_size, row_in, row_size, Bounded}
+use Rattle.opf_layout.specs.Raw.{RawLaid}
 use Rattle.opf_layout.proofs.Counting.{columns_of, rows_of, nvar_few, ncon_few, columns_few, rows_few}
 use Rattle.opf_layout.proofs.Blocks.{column_within, row_within}
-use Rattle.opf_readback.specs.Readback.{read_at, read_sheet, linear_dual, flows, powers}
-use Rattle.opf_readback.specs.Walks.{block_at, turned_at, picked_at, lower_at, signed_of, objective_of, RawLaid}
+use Rattle.opf_layout.proofs.Ranks.{rank_below}
+use Rattle.opf_readback.specs.Readback.{read_at, read_sheet, primal, dual, linear_dual, flows, powers, generator_costs, declared}
+use Rattle.opf_readback.specs.Walks.{turned_at, picked_at, lower_at, signed_of, cost_sum, objective_of}
+use Rattle.opf_readback.specs.Points.{pieces_in, entry_words_at}
+use Rattle.opf_readback.proofs.Reading.{equal_room, limit_room}
 
 -- a part of a list is made of its words
-part_made : (x : List Float) (a e n : ℕ) → a + n ≡ e → e ≤ length x → part x a e ≡ made (block_at x a) n
+part_made : (x : List Float) (a e n : ℕ) → a + n ≡ e → e ≤ length x → part x a e ≡ made (λ i. get_or x (a + i) nan) n
 part_made x a e n q h =
     let l = part_length x a e n q h in
-    ext_get_or nan (part x a e) (made (block_at x a) n) (l ∙ sym (made_length (block_at x a) n))
-    (λ i m. part_at x a e i (omega arith) ∙ sym (made_at (block_at x a) n i nan (omega arith)))
-
--- an entry's room, where the entry is known
-pub room_of : (c : Counts) (p at n : ℕ) {e g : Entry} → e ≡ g → at + size c p e ≤ n → at + size c p g ≤ n
-room_of c p at n q h = rw q at h
+    ext_get_or nan (part x a e) (made (λ i. get_or x (a + i) nan) n) (l ∙ sym (made_length (λ i. get_or x (a + i) nan) n))
+    (λ i m. part_at x a e i (omega arith) ∙ sym (made_at (λ i. get_or x (a + i) nan) n i nan (omega arith)))
 
 module _ {c : Counts} {w : List ℕ} {r x z : List Float} {lay : OpfLayout} (h : RawLaid c w r x z lay) where
+  -- a block lies within its vector
   pub column_room : (b : OpfColumn) → (column_in lay b + column_size c (active_of c w r) b ≤ length x) × (column_in lay b < 0x1_0000)
   column_room b = (
     omega (arith, columns_of c (active_of c w r) lay h.placed b, column_within c (active_of c w r) b, h.columns_long),
@@ -57,130 +65,112 @@ module _ {c : Counts} {w : List ℕ} {r x z : List Float} {lay : OpfLayout} (h :
     omega (arith, rows_of c (active_of c w r) lay h.placed b, rows_few c (active_of c w r) b, ncon_few c (active_of c w r) h.bounded),
   )
 
-  -- the epigraphs are as many as the piecewise generators
-  pub cost_room : {p : ℕ} → p ≡ pieces c w → (lay.cost + p ≤ length x) × (lay.cost < 0x1_0000) × (p ≤ 1024)
-  unfolding active_of
-  cost_room q =
-      (omega (arith, (column_room columns.Cost).0), (column_room columns.Cost).1, omega (arith, h.bounded.few_pieces, h.bounded.few.generators))
-
-  -- the dispatch ends where the flows start, and these where the sheds do
-  pub flow_next : lay.pg + c.generators ≡ lay.flow
-  unfolding column_start
-  flow_next = omega (arith, h.placed.pg_start, h.placed.flow_start)
-
-  pub shed_next : lay.flow + c.branches ≡ lay.shed
-  unfolding column_start
-  shed_next = omega (arith, h.placed.flow_start, h.placed.shed_start)
-
-  pub flows_long : length (part x lay.flow lay.shed) ≡ c.branches
-  flows_long = part_length x lay.flow lay.shed c.branches shed_next (omega (arith, (column_room columns.Shed).0))
-
-  pub powers_long : length (part x lay.pg lay.flow) ≡ c.generators
-  powers_long = part_length x lay.pg lay.flow c.generators flow_next (omega (arith, (column_room columns.Flow).0))
-
   module _ (ti : List ℕ) (tc : List Float) (raw : Float) where
-    -- a row's signed dual, case by case
-    row_dual_lem : (l : RowLimits) (q : ℕ) → signed_of z (lay.linear_equal + equality_rank c w r q) (lay.linear_limit + inequality_rank c w r q) l ≡ linear_dual c w r ti tc x z raw l q
-    row_dual_lem None q = refl
-    row_dual_lem (Upper u) q = rw h.placed.linear_limit_start
-    row_dual_lem (Lower l) q = rw h.placed.linear_limit_start
-    row_dual_lem (Both u l) q = rw (h.placed.linear_limit_start, add_assoc)
-    row_dual_lem (Equal l) q = rw h.placed.linear_equal_start
+    pub columns_block : (b : OpfColumn) {a e : ℕ} → a ≡ column_in lay b → a + column_size c (active_of c w r) b ≡ e → part x a e ≡ made (primal c w r ti tc x z raw b) (column_size c (active_of c w r) b)
+    columns_block b {a} {e} q k =
+        part_made x a e (column_size c (active_of c w r) b) k (omega (arith, q, (column_room b).0))
+        ∙ ap (λ (s : ℕ). made (λ i. get_or x (s + i) nan) (column_size c (active_of c w r) b)) (q ∙ columns_of c (active_of c w r) lay h.placed b)
 
-    flows_are : part x lay.flow lay.shed ≡ flows c w r ti tc x z raw
-    flows_are =
-        part_made x lay.flow lay.shed c.branches shed_next (omega (arith, (column_room columns.Shed).0))
-        ∙ ap (λ (s : ℕ). made (block_at x s) c.branches) h.placed.flow_start
+    pub rows_block : (b : OpfRow) {a e : ℕ} → a ≡ row_in lay b → a + row_size c (active_of c w r) b ≡ e → part z a e ≡ made (dual c w r ti tc x z raw b) (row_size c (active_of c w r) b)
+    rows_block b {a} {e} q k =
+        part_made z a e (row_size c (active_of c w r) b) k (omega (arith, q, (row_room b).0))
+        ∙ ap (λ (s : ℕ). made (λ i. get_or z (s + i) nan) (row_size c (active_of c w r) b)) (q ∙ rows_of c (active_of c w r) lay h.placed b)
 
-    powers_are : part x lay.pg lay.flow ≡ powers c w r ti tc x z raw
-    powers_are =
-        part_made x lay.pg lay.flow c.generators flow_next (omega (arith, (column_room columns.Flow).0))
-        ∙ ap (λ (s : ℕ). made (block_at x s) c.generators) h.placed.pg_start
+-- ---- what a walk over a block leaves
 
-    -- new is old with an entry's words from a place on
-    module _ (p : ℕ) (old : List Float) (at : ℕ) {e : Entry} {new : List Float} where
-      pub of_va : e ≡ Va → new ≡ sets old at (made (block_at x lay.va) c.buses) → new ≡ sets old at (made (read_at c w r ti tc x z raw e) (size c p e))
-      unfolding read_at
-      of_va q g = rw q (g ∙ ap (λ (s : ℕ). sets old at (made (block_at x s) c.buses)) h.placed.va_start)
+-- as many are active as the block has words
+pub rank_room : (on : ℕ → Bool) (f : ℕ → Float) (n m : ℕ) {k : ℕ} {block : List Float} → k ≡ n → block ≡ made f m → active_rank on n ≤ m → active_rank on k ≤ length block
+rank_room on f n m e b h = rw (e, b, made_length) h
 
-      pub of_pg : e ≡ Pg → new ≡ sets old at (made (block_at x lay.pg) c.generators) → new ≡ sets old at (made (read_at c w r ti tc x z raw e) (size c p e))
-      unfolding read_at
-      of_pg q g = rw q (g ∙ ap (λ (s : ℕ). sets old at (made (block_at x s) c.generators)) h.placed.pg_start)
+-- each active one finds its word
+picked_word : (on : ℕ → Bool) (f other : ℕ → Float) (n m i : ℕ) → active_rank on n ≤ m → i < n → (b : Bool) → on i ≡ b
+    → cond b (get_or (made f m) (active_rank on i) nan) (other i) ≡ cond b (f (active_rank on i)) (other i)
+picked_word on f other n m i h l true e = made_at f m (active_rank on i) nan (omega (arith, rank_below on i n e l, h))
+picked_word on f other n m i h l false e = refl
 
-      pub of_flow : e ≡ Flow → new ≡ sets old at (made (block_at x lay.flow) c.branches) → new ≡ sets old at (made (read_at c w r ti tc x z raw e) (size c p e))
-      unfolding read_at
-      of_flow q g = rw q (g ∙ ap (λ (s : ℕ). sets old at (made (block_at x s) c.branches)) h.placed.flow_start)
+pub picked_entry : (on : ℕ → Bool) (f other : ℕ → Float) (n m : ℕ) {k : ℕ} {new block : List Float}
+    → new ≡ made (picked_at on block other) k → k ≡ n → block ≡ made f m → active_rank on n ≤ m → new ≡ made (λ i. cond (on i) (f (active_rank on i)) (other i)) n
+picked_entry on f other n m g e b h =
+    g ∙ rw (e, b) (made_same _ _ n (λ i l. picked_word on f other n m i h l (on i) refl))
 
-      pub of_psh : e ≡ Psh → new ≡ sets old at (made (picked_at (sheds c w r) x lay.shed) c.buses) → new ≡ sets old at (made (read_at c w r ti tc x z raw e) (size c p e))
-      unfolding read_at
-      of_psh q g = rw q (g ∙ ap (λ (s : ℕ). sets old at (made (picked_at (sheds c w r) x s) c.buses)) h.placed.shed_start)
+pub block_long : (f : ℕ → Float) (n : ℕ) {block : List Float} → block ≡ made f n → length block ≡ n
+block_long f n e = rw e (made_length f n)
 
-      pub of_nu_bal : e ≡ NuBal → new ≡ sets old at (made (turned_at z lay.balance) c.buses) → new ≡ sets old at (made (read_at c w r ti tc x z raw e) (size c p e))
-      unfolding read_at
-      of_nu_bal q g = rw q (g ∙ ap (λ (s : ℕ). sets old at (made (turned_at z s) c.buses)) h.placed.balance_start)
+pub turned_entry : (f : ℕ → Float) (n : ℕ) {k : ℕ} {new block : List Float} → new ≡ made (turned_at block) k → k ≡ n → block ≡ made f n → new ≡ made (λ i. neg (f i)) n
+turned_entry f n g e b = g ∙ rw (e, b) (made_same _ _ n (λ i l. rw (made_at f n i nan l)))
 
-      pub of_lam_ub : e ≡ LamUb → new ≡ sets old at (made (picked_at (flagged c w ThermalFlags) z lay.line_ub) c.branches) → new ≡ sets old at (made (read_at c w r ti tc x z raw e) (size c p e))
-      unfolding read_at
-      of_lam_ub q g = rw q (g ∙ ap (λ (s : ℕ). sets old at (made (picked_at (flagged c w ThermalFlags) z s) c.branches)) h.placed.line_ub_start)
+pub lower_entry : (c : Counts) (r : List Float) (on : ℕ → Bool) (f g : ℕ → Float) (m : ℕ) {k : ℕ} {new block balance : List Float}
+    → new ≡ made (picked_at on block (lower_at c r balance)) k → k ≡ c.buses → balance ≡ made g c.buses → block ≡ made f m → active_rank on c.buses ≤ m
+    → new ≡ made (λ i. cond (on i) (f (active_rank on i)) (sub binary64 (reading c r CShed i) (neg (g i)))) c.buses
+lower_entry c r on f g m {k} {new} {block} {balance} d e q b h =
+    picked_entry on f (λ i. sub binary64 (reading c r CShed i) (neg (g i))) c.buses m
+    (d ∙ rw (e, q) (made_same _ _ c.buses (λ i l. ap (λ (y : Float). cond (on i) (get_or block (active_rank on i) nan) (sub binary64 (reading c r CShed i) (neg y))) (made_at g c.buses i nan l))))
+    refl b h
 
-      pub of_lam_lb : e ≡ LamLb → new ≡ sets old at (made (picked_at (flagged c w ThermalFlags) z lay.line_lb) c.branches) → new ≡ sets old at (made (read_at c w r ti tc x z raw e) (size c p e))
-      unfolding read_at
-      of_lam_lb q g = rw q (g ∙ ap (λ (s : ℕ). sets old at (made (picked_at (flagged c w ThermalFlags) z s) c.branches)) h.placed.line_lb_start)
+-- the only word of a sheet of one
+pub one_word : (v : Float) (l : List Float) → length l ≡ 1 → set l 0 v ≡ v ∷ []
+one_word v [] h = absurd (omega arith)
+one_word v (x ∷ []) h = refl
+one_word v (x ∷ y ∷ l) h = absurd (omega arith)
 
-      pub of_rho_ub : e ≡ RhoUb → new ≡ sets old at (made (picked_at (flagged c w GeneratorFlags) z lay.gen_ub) c.generators) → new ≡ sets old at (made (read_at c w r ti tc x z raw e) (size c p e))
-      unfolding read_at
-      of_rho_ub q g = rw q (g ∙ ap (λ (s : ℕ). sets old at (made (picked_at (flagged c w GeneratorFlags) z s) c.generators)) h.placed.gen_ub_start)
+module _ (p : RawPoint) {e g : Entry} (q : e ≡ g) where
+  -- an entry's length and its words, where the entry is known
+  pub long_of : {n : ℕ} → n ≡ size p.site.grid.plan.counts (pieces_in p) e → n ≡ size p.site.grid.plan.counts (pieces_in p) g
+  long_of h = rw q at h
 
-      pub of_rho_lb : e ≡ RhoLb → new ≡ sets old at (made (picked_at (flagged c w GeneratorFlags) z lay.gen_lb) c.generators) → new ≡ sets old at (made (read_at c w r ti tc x z raw e) (size c p e))
-      unfolding read_at
-      of_rho_lb q g = rw q (g ∙ ap (λ (s : ℕ). sets old at (made (picked_at (flagged c w GeneratorFlags) z s) c.generators)) h.placed.gen_lb_start)
+  pub entry_is : {new : List Float} → new ≡ entry_words_at p g → new ≡ entry_words_at p e
+  entry_is h = rw q h
 
-      pub of_mu_ub : e ≡ MuUb → new ≡ sets old at (made (picked_at (sheds c w r) z lay.shed_ub) c.buses) → new ≡ sets old at (made (read_at c w r ti tc x z raw e) (size c p e))
-      unfolding read_at
-      of_mu_ub q g = rw q (g ∙ ap (λ (s : ℕ). sets old at (made (picked_at (sheds c w r) z s) c.buses)) h.placed.shed_ub_start)
+module _ (c : Counts) (w : List ℕ) (r : List Float) (ti : List ℕ) (tc x z : List Float) (raw : Float) where
+  -- a row's signed dual, case by case
+  abbrev pub equal_block : List Float
+  equal_block = made (dual c w r ti tc x z raw rows.LinearEqual) (equality_rank c w r c.rows)
 
-      pub of_mu_lb : e ≡ MuLb → new ≡ sets old at (made (lower_at c w r z lay.balance lay.shed_lb) c.buses) → new ≡ sets old at (made (read_at c w r ti tc x z raw e) (size c p e))
-      unfolding read_at
-      of_mu_lb q g =
-          rw q
-          (g
-          ∙ ap (λ (s : ℕ). sets old at (made (lower_at c w r z s lay.shed_lb) c.buses)) h.placed.balance_start
-          ∙ ap (λ (s : ℕ). sets old at (made (lower_at c w r z (row_start c (active_of c w r) rows.Balance) s) c.buses)) h.placed.shed_lb_start)
+  abbrev pub limit_block : List Float
+  limit_block = made (dual c w r ti tc x z raw rows.LinearLimit) (inequality_rank c w r c.rows)
 
-      pub of_gamma_ub : e ≡ GammaUb → new ≡ sets old at (made (picked_at (flagged c w AngleFlags) z lay.phase_ub) c.branches) → new ≡ sets old at (made (read_at c w r ti tc x z raw e) (size c p e))
-      unfolding read_at
-      of_gamma_ub q g = rw q (g ∙ ap (λ (s : ℕ). sets old at (made (picked_at (flagged c w AngleFlags) z s) c.branches)) h.placed.phase_ub_start)
+  equal_word : (k : ℕ) → k < equality_rank c w r c.rows → get_or (drop k equal_block) 0 nan ≡ dual c w r ti tc x z raw rows.LinearEqual k
+  equal_word k h =
+      get_or-drop k equal_block 0 nan
+      ∙ ap (λ (j : ℕ). get_or equal_block j nan) (add-zero k)
+      ∙ made_at (dual c w r ti tc x z raw rows.LinearEqual) (equality_rank c w r c.rows) k nan h
 
-      pub of_gamma_lb : e ≡ GammaLb → new ≡ sets old at (made (picked_at (flagged c w AngleFlags) z lay.phase_lb) c.branches) → new ≡ sets old at (made (read_at c w r ti tc x z raw e) (size c p e))
-      unfolding read_at
-      of_gamma_lb q g = rw q (g ∙ ap (λ (s : ℕ). sets old at (made (picked_at (flagged c w AngleFlags) z s) c.branches)) h.placed.phase_lb_start)
+  limit_word : (k t n : ℕ) → k + t ≡ n → n < inequality_rank c w r c.rows → get_or (drop k limit_block) t nan ≡ dual c w r ti tc x z raw rows.LinearLimit n
+  limit_word k t n e h =
+      get_or-drop k limit_block t nan
+      ∙ ap (λ (j : ℕ). get_or limit_block j nan) e
+      ∙ made_at (dual c w r ti tc x z raw rows.LinearLimit) (inequality_rank c w r c.rows) n nan h
 
-      pub of_epigraph : e ≡ Epigraph → new ≡ sets old at (made (block_at x lay.cost) p) → new ≡ sets old at (made (read_at c w r ti tc x z raw e) (size c p e))
-      unfolding read_at
-      of_epigraph q g = rw q (g ∙ ap (λ (s : ℕ). sets old at (made (block_at x s) p)) h.placed.cost_start)
+  row_word : (l : RowLimits) (q : ℕ) → equality_rank c w r q + equalities l ≤ equality_rank c w r c.rows → inequality_rank c w r q + inequalities l ≤ inequality_rank c w r c.rows
+      → signed_of l (drop (equality_rank c w r q) equal_block) (drop (inequality_rank c w r q) limit_block) ≡ linear_dual c w r ti tc x z raw l q
+  row_word None q h g = refl
+  row_word (Upper u) q h g = rw (limit_word (inequality_rank c w r q) 0 (inequality_rank c w r q) (add-zero _) (omega arith))
+  row_word (Lower l) q h g = rw (limit_word (inequality_rank c w r q) 0 (inequality_rank c w r q) (add-zero _) (omega arith))
+  row_word (Both u l) q h g = rw (limit_word (inequality_rank c w r q) 0 (inequality_rank c w r q) (add-zero _) (omega arith), limit_word (inequality_rank c w r q) 1 (inequality_rank c w r q + 1) refl (omega arith))
+  row_word (Equal l) q h g = rw (equal_word (equality_rank c w r q) (omega arith))
 
-      pub of_segment_dual : e ≡ SegmentDual → new ≡ sets old at (made (block_at z lay.segment) c.segments) → new ≡ sets old at (made (read_at c w r ti tc x z raw e) (size c p e))
-      unfolding read_at
-      of_segment_dual q g = rw q (g ∙ ap (λ (s : ℕ). sets old at (made (block_at z s) c.segments)) h.placed.segment_block_start)
+  pub duals_entry : {k : ℕ} {new equal limit : List Float}
+      → new ≡ made (λ q. signed_of (row_limits c w r q) (drop (equality_rank c w r q) equal) (drop (inequality_rank c w r q) limit)) k → k ≡ c.rows → equal ≡ equal_block → limit ≡ limit_block
+      → new ≡ made (λ q. linear_dual c w r ti tc x z raw (row_limits c w r q) q) c.rows
+  duals_entry g e a b =
+      g ∙ rw (e, a, b) (made_same _ _ c.rows (λ q l. row_word (row_limits c w r q) q (equal_room c w r q l refl refl) (limit_room c w r q l refl refl)))
 
-      pub of_linear_dual : e ≡ LinearDual
-          → new ≡ sets old at (made (λ q. signed_of z (lay.linear_equal + equality_rank c w r q) (lay.linear_limit + inequality_rank c w r q) (row_limits c w r q)) c.rows) → new ≡ sets old at (made (read_at c w r ti tc x z raw e) (size c p e))
-      unfolding read_at
-      of_linear_dual q g =
-          rw q (g ∙ ap (λ (l : List Float). sets old at l) (made_same _ _ c.rows (λ i m. row_dual_lem (row_limits c w r i) i)))
+  pub values_entry : {k : ℕ} {new f pg : List Float} → new ≡ made (λ q. evaluate c w ti tc q f pg) k → k ≡ c.rows → f ≡ flows c w r ti tc x z raw → pg ≡ powers c w r ti tc x z raw
+      → new ≡ made (λ q. evaluate c w ti tc q (flows c w r ti tc x z raw) (powers c w r ti tc x z raw)) c.rows
+  values_entry g e a b = rw (e, a, b) at g
 
-      pub of_linear_value : e ≡ LinearValue
-          → new ≡ sets old at (made (λ q. evaluate c w ti tc q (part x lay.flow lay.shed) (part x lay.pg lay.flow)) c.rows) → new ≡ sets old at (made (read_at c w r ti tc x z raw e) (size c p e))
-      unfolding read_at
-      of_linear_value q g =
-          rw q
-          (g
-          ∙ ap (λ (f : List Float). sets old at (made (λ q. evaluate c w ti tc q f (part x lay.pg lay.flow)) c.rows)) flows_are
-          ∙ ap (λ (f : List Float). sets old at (made (λ q. evaluate c w ti tc q (flows c w r ti tc x z raw) f) c.rows)) powers_are)
+  -- the generators' cost at the dispatch
+  pub costs_are : {pg : List Float} → pg ≡ made (primal c w r ti tc x z raw columns.Pg) c.generators → cost_sum c w r pg (length pg) ≡ generator_costs c w r ti tc x z raw
+  costs_are e =
+      rw (e, made_length)
+      (turns_same _ _ nought c.generators
+      (λ j l a. ap (λ (p : Float). add binary64 a (generator_cost c w r j p)) (made_at (primal c w r ti tc x z raw columns.Pg) c.generators j nan l)))
 
-      pub of_objective : {v : Float} → e ≡ Objective → v ≡ objective_of c w r x lay.pg raw → new ≡ set old at v → new ≡ sets old at (made (read_at c w r ti tc x z raw e) (size c p e))
-      unfolding read_at made
-      of_objective q d g = rw q (g ∙ ap (λ (y : Float). set old at y) (d ∙ ap (λ (s : ℕ). objective_of c w r x s raw) h.placed.pg_start))
+  pub objective_entry : {new pg : List Float} {v : Float} → new ≡ v ∷ [] → v ≡ objective_of c w r pg raw → pg ≡ made (primal c w r ti tc x z raw columns.Pg) c.generators
+      → new ≡ made (λ i. declared c w r ti tc x z raw) 1
+  unfolding made
+  objective_entry g d e =
+      g ∙ ap (λ (v : Float). v ∷ []) (d ∙ ap (λ (s : Float). cond (eqb (objective w) 0) nought (cond (eqb (objective w) 1) s raw)) (costs_are e))
 
 -- the whole sheet, entry by entry
 module _ (c : Counts) (w : List ℕ) (r : List Float) (ti : List ℕ) (tc x z : List Float) (raw : Float) (p : ℕ) where
@@ -193,6 +183,11 @@ module _ (c : Counts) (w : List ℕ) (r : List Float) (ti : List ℕ) (tc x z : 
   pub sheet_is : p ≡ pieces c w → each 18 entry_words ≡ read_sheet c w r ti tc x z raw
   unfolding read_sheet
   sheet_is q = ap (λ (n : ℕ). each 18 (λ k. made (read_at c w r ti tc x z raw (get_or entries k Va)) (size c n (get_or entries k Va)))) q
+
+-- the layout's pieces are the network's
+pub pieces_are : {c : Counts} {w : List ℕ} {r x z : List Float} {lay : OpfLayout} → RawLaid c w r x z lay → lay.active.pieces ≡ pieces c w
+unfolding active_of
+pieces_are h = ap (λ (a : Active). a.pieces) h.placed.active_is
 
 pub pieces_few : (c : Counts) (w : List ℕ) (r : List Float) (p : ℕ) → Bounded c (active_of c w r) → p ≡ pieces c w → p ≤ c.generators
 unfolding active_of

@@ -1,70 +1,33 @@
 -- A walk's word is the definition's where its running ranks are; a linear row's places lie among all of them.
--- Main results: `block_stored`, `picked`, `picked_room`, `flag_met`, `lower`, `signed`; `equal_room`, `limit_room`, `equal_more`, `limit_more`. Assumes nothing.
-use mathlib.Core.Path.{◌≡◌, refl, sym, ◌∙◌}
-use mathlib.Core.Bool.{Bool, true, cond, not}
-use mathlib.Core.List.{List, append_assoc}
-use Prim.Native.Nat.{ℕ, zero, suc, ◌+◌, ◌-◌, ◌≤◌, ◌<◌}
+-- Main results: `equal_room`, `limit_room`, `equal_more`, `limit_more`, `flag_met`, `whole`. Assumes nothing.
+use mathlib.Core.Path.{◌≡◌, refl, sym, ap, ◌∙◌}
+use mathlib.Core.Bool.{Bool, true, false, not}
+use mathlib.Core.List.{List}
+use Prim.Native.Nat.{ℕ, ◌+◌, ◌-◌, ◌≤◌, ◌<◌}
+use native.Mathlib.Nat.{add-zero}
 use native.Mathlib.Omega.{arith}
 use lib.Dec.{eqb}
 use lib.ListN.{length, get_or, take, drop, length-drop}
-use lib.Seq.{sets, sets-eq, take-suc}
-use borrow.Rule.Slice.PartMut.{put_mid, Post-is}
-use Rattle.std.proofs.lemmas.List.{get_or-drop}
-use lib.Ieee.{Float, nan, binary64, neg, sub}
-use Rattle.float64.specs.Values.{nought}
+use Rattle.std.proofs.lemmas.List.{take_all}
+use lib.Ieee.{Float, nan}
 use Rattle.sequence.specs.Lists.{made}
-use Rattle.sequence.proofs.Lists.{before_none, before_more, before_within, made_length}
+use Rattle.sequence.proofs.Lists.{before_none, before_more, before_within}
+use Rattle.sequence.proofs.Fronts.{Fronted}
 use Rattle.network.specs.declared.Counts.{Counts}
-use Rattle.network.specs.declared.Field.TheVariants.{CShed}
 use Rattle.network.specs.declared.Part.{Part}
-use Rattle.network.specs.Layout.{wire, reading}
+use Rattle.network.specs.Layout.{wire}
 use Rattle.model.specs.declared.RowLimits.{RowLimits}
 use Rattle.model.specs.Rows.{row_limits}
-use Rattle.opf_layout.specs.Layout.{active_rank, flagged, sheds, equalities, inequalities, equality_rank, inequality_rank}
-use Rattle.opf_layout.proofs.Ranks.{rank_below}
-use Rattle.opf_readback.specs.Walks.{block_at, picked_at, lower_at, signed_of}
-
--- ---- a block that comes into a sheet as it is
-
-block_is : (x : List Float) (start count : ℕ) → start + count ≤ length x → take count (drop start x) ≡ made (block_at x start) count
-unfolding made
-block_is x start zero h = refl
-block_is x start (suc n) h =
-    take-suc (drop start x) n nan (rw length-drop (omega arith)) ∙ rw (block_is x start n (omega arith), get_or-drop)
-
-pub block_stored : (x out : List Float) (start count at : ℕ) {part : List Float} → start + count ≤ length x → at + count ≤ length out
-    → part ≡ take (start + count - start) (drop start x) → put_mid at (at + count - at) out part ≡ sets out at (made (block_at x start) count)
-block_stored x out start count at h g e =
-    let k : start + count - start ≡ count = omega arith in
-    let b = block_is x start count h in
-    rw (e, k, b, Post-is at (at + count) out (omega arith)) (sym (sets-eq (made (block_at x start) count) out at (rw made_length g) ∙ rw (made_length, append_assoc)))
-
--- ---- words by rank
-
-pub picked : (on : ℕ → Bool) (x : List Float) (start i : ℕ) {k : ℕ} {met : Bool} {v : Float}
-    → v ≡ cond met (get_or x (start + k) nan) nought → met ≡ on i → k ≡ active_rank on i → v ≡ picked_at on x start i
-picked on x start i e q h = e ∙ rw (q, h)
-
--- and an active one's word lies within the block
-pub picked_room : (on : ℕ → Bool) (i n start room : ℕ) {k : ℕ} {met : Bool}
-    → met ≡ on i → k ≡ active_rank on i → i < n → start + active_rank on n ≤ room → met ≡ true → start + k < room
-picked_room on i n start room q h l m e = omega (arith, rank_below on i n (sym q ∙ e) l, h, m)
+use Rattle.sens_snap.proofs.Stores.{all_made}
+use Rattle.opf_layout.specs.Layout.{active_rank, flagged, equalities, inequalities, equality_rank, inequality_rank}
+use Rattle.opf_layout.proofs.Counting.{rank_more}
+use Rattle.opf_readback.specs.Walks.{picked_at}
 
 -- a flag is set where its word is not 0
 pub flag_met : (c : Counts) (w : List ℕ) (part : Part) (i : ℕ) {x : ℕ} → x ≡ wire c w part i → not (eqb x 0) ≡ flagged c w part i
 flag_met c w part i e = rw e
 
 module _ (c : Counts) (w : List ℕ) (r : List Float) where
-  pub lower : (z : List Float) (balance start i : ℕ) {k : ℕ} {met : Bool} {v : Float}
-      → v ≡ cond met (get_or z (start + k) nan) (sub binary64 (reading c r CShed i) (neg (get_or z (balance + i) nan)))
-      → met ≡ sheds c w r i → k ≡ active_rank (sheds c w r) i → v ≡ lower_at c w r z balance start i
-  lower z balance start i e q h = e ∙ rw (q, h)
-
-  pub signed : (z : List Float) (equal limit q : ℕ) {k l : ℕ} {limits : RowLimits} {v : Float}
-      → v ≡ signed_of z (equal + k) (limit + l) limits → limits ≡ row_limits c w r q → k ≡ equality_rank c w r q → l ≡ inequality_rank c w r q
-      → v ≡ signed_of z (equal + equality_rank c w r q) (limit + inequality_rank c w r q) (row_limits c w r q)
-  signed z equal limit q e h g f = e ∙ rw (h, g, f)
-
   -- a row's places end within all of them
   pub equal_room : (q : ℕ) {k : ℕ} {limits : RowLimits} → q < c.rows → limits ≡ row_limits c w r q → k ≡ equality_rank c w r q
       → k + equalities limits ≤ equality_rank c w r c.rows
@@ -94,3 +57,29 @@ module _ (c : Counts) (w : List ℕ) (r : List Float) where
       → l + n ≡ inequality_rank c w r (q + 1)
   unfolding inequality_rank
   limit_more q e h g = rw (before_more, ← e, h, g)
+
+-- a front as long as its sheet is the whole of it
+pub whole : (f : ℕ → Float) (old : List Float) {i : ℕ} {new : List Float} → Fronted f i old new → i ≡ length old → new ≡ made f (length old)
+whole f old p e = all_made p (sym e) ∙ ap (λ (n : ℕ). made f n) e
+
+-- the rest of a list from a place on
+pub rest_is : (xs : List Float) (k : ℕ) → take (length xs - k) (drop k xs) ≡ drop k xs
+rest_is xs k = take_all (length xs - k) (drop k xs) (rw length-drop (omega arith))
+
+pub rest_long : (xs : List Float) (k n : ℕ) {m : ℕ} → k + n ≤ m → m ≤ length xs → n ≤ length (take (length xs - k) (drop k xs))
+rest_long xs k n h l = rw (rest_is xs k, length-drop) (omega arith)
+
+-- ---- words by rank
+
+module _ (on : ℕ → Bool) (block : List Float) (other : ℕ → Float) (i : ℕ) {met : Bool} (q : met ≡ on i) where
+  pub picked_word : {k : ℕ} → met ≡ true → k ≡ active_rank on i → get_or block k nan ≡ picked_at on block other i
+  picked_word e h = rw (← q, e, h)
+
+  pub other_word : {v : Float} → met ≡ false → v ≡ other i → v ≡ picked_at on block other i
+  other_word e h = rw (← q, e, h)
+
+  pub rank_next : {k : ℕ} → met ≡ true → k ≡ active_rank on i → k + 1 ≡ active_rank on (i + 1)
+  rank_next e h = rank_more on i h refl (sym e ∙ q)
+
+  pub rank_same : {k : ℕ} → met ≡ false → k ≡ active_rank on i → k ≡ active_rank on (i + 1)
+  rank_same {k} e h = sym (add-zero k) ∙ rank_more on i h refl (sym e ∙ q)

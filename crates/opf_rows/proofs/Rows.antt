@@ -1,13 +1,14 @@
 -- Entries by value are a generator's segments and a linear row's terms as the specification names them.
 -- Main results: `segments_done`, `row_put`, `linear_done`, `terms_more`. Assumes nothing.
 use mathlib.Core.Path.{◌≡◌, refl, ◌∙◌}
-use mathlib.Core.Bool.{true}
 use mathlib.Core.List.{List, [], ◌∷◌, ◌++◌, append-nil}
 use Prim.Native.Nat.{ℕ, ◌+◌, ◌≤◌}
 use lib.ListN.{get_or}
 use lib.Ieee.{Float, nan, neg, mul, binary64}
+use Rattle.std.specs.Prelude.{Option}
 use Rattle.float64.specs.Values.{one}
 use Rattle.sequence.specs.Lists.{each}
+use Rattle.sequence.specs.declared.Triplet.{Triplet}
 use Rattle.sequence.specs.declared.Sink.{Sink}
 use Rattle.sequence.specs.Sheets.{emit}
 use Rattle.sequence.specs.Sinks.{Gains}
@@ -22,6 +23,7 @@ use Rattle.model.specs.declared.RowLimits.{RowLimits}
 use Rattle.solution.specs.Sheet.{piece_rank}
 use Rattle.snapping.specs.Expr.{Expr, eval, unit, less_unit}
 use Rattle.snapping.specs.Expr.Expr.{rd}
+use Rattle.kkt.specs.Walks.{emits}
 use Rattle.opf_layout.specs.declared.OpfColumn.{OpfColumn}
 use Rattle.opf_layout.specs.declared.OpfColumn.TheVariants.{Pg, Flow, Cost}
 use Rattle.opf_layout.specs.declared.OpfRow.{OpfRow}
@@ -29,21 +31,19 @@ use Rattle.opf_layout.specs.declared.OpfRow.TheVariants.{Segment, LinearEqual, L
 use Rattle.opf_layout.specs.declared.OpfLayout.{OpfLayout}
 use Rattle.opf_layout.specs.Layout.{equality_rank, inequality_rank, column_in, row_in}
 use Rattle.opf_assembly.specs.Assembly.{blank, Coefficient, coefficient, triplets_by, segment_entries, term_entry, written_row, linear_entries}
-use Rattle.opf_program.specs.Walks.{written, cell, cell_item}
+use Rattle.opf_program.specs.Walks.{written, entry_in}
 use Rattle.opf_rows.specs.Terms.{term_items, row_items}
-use Rattle.opf_program.proofs.Triplets.{puts_done, written_each, written_append, pair_put}
-use Rattle.opf_program.proofs.Branches.{pair}
+use Rattle.opf_program.proofs.Triplets.{puts_done, written_each, written_append, all_put}
 
 -- segment t of generator j by where its run starts and the rank of its epigraph
 abbrev pub segment_of : ℕ → ℕ → ℕ → ℕ → List Coefficient
 segment_of j g start t = coefficient Segment (start + t) Pg j (rd Slopes (start + t)) ∷ coefficient Segment (start + t) Cost g less_unit ∷ []
 
 module _ (x : OpfLayout) (c : Counts) (w : List ℕ) (r : List Float) where
-  pub segment_put : {S₀ S₁ : Sink} (j g start t : ℕ) {v : Float} → v ≡ reading c r Slopes (start + t)
-      → Gains (pair x true Segment (start + t) Pg j v Segment (start + t) Cost g (neg one)) S₀ S₁
+  pub segment_put : {S₀ S₁ : Sink} (j g start t : ℕ) {v : Float} {ts : List (Option Triplet)} → v ≡ reading c r Slopes (start + t)
+      → ts ≡ entry_in x Segment (start + t) Pg j v ∷ entry_in x Segment (start + t) Cost g (neg one) ∷ [] → Gains (emits ts) S₀ S₁
       → Gains (written x c r (segment_of j g start t)) S₀ S₁
-  segment_put j g start t e p =
-      pair_put x (reading c r) blank (coefficient Segment (start + t) Pg j (rd Slopes (start + t))) (coefficient Segment (start + t) Cost g less_unit) refl refl (rw e at p)
+  segment_put j g start t e f p = all_put x c r (segment_of j g start t) (f ∙ rw e refl) p
 
   pub segments_done : {S₀ S₁ : Sink} (j : ℕ) {g start count t : ℕ} → g ≡ piece_rank c w j → start ≡ segment_start c w j → count ≡ segments_at c w j
       → t ≤ count → count ≤ t → Gains (written x c r (each t (segment_of j g start))) S₀ S₁ → Gains (written x c r (segment_entries c w r j)) S₀ S₁
@@ -104,7 +104,7 @@ module _ (x : OpfLayout) (ti : List ℕ) (tc : List Float) (a : OpfRow) (row : �
   terms_begin = begin _
 
   pub terms_more : {S₀ S₁ S₂ : Sink} (t : ℕ) {j : ℕ} → j ≡ get_or ti (start + t) 0 → Gains (term_items x ti tc a row sign k start t) S₀ S₁
-      → Gains (emit (cell_item x true (cell a row k j (mul binary64 sign (get_or tc (start + t) nan))))) S₁ S₂ → Gains (term_items x ti tc a row sign k start (t + 1)) S₀ S₂
+      → Gains (emit (entry_in x a row k j (mul binary64 sign (get_or tc (start + t) nan)))) S₁ S₂ → Gains (term_items x ti tc a row sign k start (t + 1)) S₀ S₂
   unfolding term_items
   terms_more t e p q = more _ t p (rw e at q)
 

@@ -1,5 +1,5 @@
 -- Words stored after each other: none, one list and then another, a loop's turns, and a whole sheet's front.
--- Main results: `nothing`, `then`, `turn`, `turn_room`, `turns_length`, `whole`; `below`. Assumes nothing.
+-- Main results: `nothing`, `then`, `turn_room`, `turns_length`, `whole`; `added`, `words_more`; `below`. Assumes nothing.
 use mathlib.Core.Bool.{Bool, true, false}
 use mathlib.Core.Path.{◌≡◌, refl, ap, ◌∙◌}
 use mathlib.Core.List.{List, [], ◌∷◌, ◌++◌}
@@ -16,7 +16,8 @@ use Rattle.network.specs.declared.Counts.{Counts}
 use Rattle.opf_layout.specs.declared.OpfColumn.{OpfColumn}
 use Rattle.opf_layout.specs.declared.OpfRow.{OpfRow}
 use Rattle.opf_assembly.specs.Assembly.{column_elements, row_elements}
-use Rattle.opf_sides.specs.Walks.{Stores, added_word}
+use Rattle.opf_sides.specs.declared.Words.{Words}
+use Rattle.opf_sides.specs.Walks.{Stores, Adds, added_word}
 
 module _ {A : Type 0} where
   pub nothing : (at : ℕ) (old : List A) → Stores [] at old old at
@@ -35,10 +36,7 @@ module _ {A : Type 0} where
   pub two : {old mid new : List A} (at : ℕ) (v u : A) → mid ≡ set old at v → new ≡ set mid (at + 1) u → Stores (v ∷ u ∷ []) at old new (at + 2)
   two {old} {mid} {new} at v u e f = let p = then {x = old} {y = mid} {z = new} (one at v e) (one (at + 1) u f) in record { is = p.is; next = refl; kept = p.kept }
 
-  -- the room of the first of two lists, and what is left for the second
-  pub room_first : (a b : List A) (at room : ℕ) → at + length (a ++ b) ≤ room → at + length a ≤ room
-  room_first a b at room h = omega (arith, length-append a b)
-
+  -- what is left of the room for the second of two lists
   pub room_next : {a : List A} (b : List A) {at k : ℕ} {x y : List A} → Stores a at x y k → at + length (a ++ b) ≤ length x → k + length b ≤ length y
   room_next {a} b p h = omega (arith, length-append a b, p.next, p.kept)
 
@@ -54,24 +52,12 @@ module _ {A : Type 0} where
   pub one_side : (on : Bool) {l : List A} {v u : A} → l ≡ when on (v ∷ []) → v ≡ u → l ≡ when on (u ∷ [])
   one_side on h e = rw e at h
 
-  pub when_room : {on : Bool} (v : A) {at room : ℕ} → on ≡ true → at + length (when on (v ∷ [])) ≤ room → at < room
-  unfolding when
-  when_room v e h = let g = rw e at h in omega (arith, g)
-
   -- a word that begins at z and is then changed
   pub begun : (x : List A) {y w : List A} {at : ℕ} (z d : A) (f : A → A) → at < length x → y ≡ set x at z → w ≡ set y at (f (get_or y at d)) → w ≡ set x at (f z)
   begun x {at = at} z d f h e g = g ∙ rw (e, get_or-set_same x at z d h, set-set x at z (f z))
 
   pub turns_length : (f : ℕ → List A) (n : ℕ) → length (each n f) ≡ before (λ i. length (f i)) n
   turns_length f n = each_long f (λ i. length (f i)) n (λ i h. refl)
-
-  -- a loop's turns
-  pub no_turn : (f : ℕ → List A) (at : ℕ) (old : List A) → Stores (each 0 f) at old old at
-  unfolding each
-  no_turn f at old = nothing at old
-
-  pub turn : {at j k : ℕ} {x y z : List A} (f : ℕ → List A) (i : ℕ) → Stores (each i f) at x y j → Stores (f i) j y z k → Stores (each (i + 1) f) at x z k
-  turn f i p q = rw (each_more f i) (then p q)
 
   -- a turn's words have room where all of them have
   pub turn_room : (f : ℕ → List A) (i n at room : ℕ) {j : ℕ} → i < n → at + length (each n f) ≤ room → j ≡ at + length (each i f) → j + length (f i) ≤ room
@@ -83,6 +69,21 @@ module _ {A : Type 0} where
 
   pub whole : {l old new : List A} {k : ℕ} → Stores l 0 old new k → length l ≤ length old → new ≡ front l old
   whole {l} {old} p h = p.is ∙ fronted l old h
+
+-- ---- at a sheet that is written word by word
+
+pub added : {a b : List Float} {x y z : Words} → Adds a x y → Adds b y z → Adds (a ++ b) x z
+added p q = record { stores = then p.stores q.stores; same = q.same ∙ p.same }
+
+pub none_added : (x : Words) → Adds [] x x
+none_added x = record { stores = nothing x.at x.sheet.now; same = refl }
+
+pub words_begin : (f : ℕ → List Float) (x : Words) → Adds (each 0 f) x x
+unfolding each
+words_begin f x = none_added x
+
+pub words_more : {x y z : Words} (f : ℕ → List Float) (i : ℕ) → Adds (each i f) x y → Adds (f i) y z → Adds (each (i + 1) f) x z
+words_more f i p q = rw (each_more f i) (added p q)
 
 -- an element of a block that is known
 pub below : (c : Counts) (i : ℕ) {b g : OpfRow} → b ≡ g → i < row_elements c b → i < row_elements c g

@@ -1,5 +1,5 @@
 -- Words that are stored after each other, what one element has in b and in q by value, and the cones by the layout.
--- Main definitions: `Stores`, `listed`, `added_word`, `cones_in`. Assumes nothing.
+-- Main definitions: `Stores`, `Adds`, `listed`, `added_word`, `cones_in`. Assumes nothing.
 use Rattle.std.specs.Prelude.{ℕ, ◌+◌, ◌<◌, ◌≡◌, List, [], ◌∷◌, length, Float, Option, Some, None}
 use Rattle.std.proofs.lemmas.List.Edits.{sets}
 use Rattle.std.specs.Float.{binary64}
@@ -7,6 +7,7 @@ use Rattle.std.specs.Float.Ieee.{add}
 use Rattle.float64.specs.Values.{nought}
 use Rattle.opf_layout.specs.declared.OpfLayout.{OpfLayout}
 use Rattle.opf_layout.specs.Layout.{also_if}
+use Rattle.opf_sides.specs.declared.Words.{Words}
 use Rattle.opf_sides.specs.declared.Sides.{Sides}
 use Rattle.opf_sides.specs.declared.Sides.TheVariants.{Nothing, One, Two}
 
@@ -15,6 +16,11 @@ pub record Stores {A : Type 0} (l : List A) (at : ℕ) (old new : List A) (k : �
   pub is : new ≡ sets old at l
   pub next : k ≡ at + length l
   pub kept : length new ≡ length old
+
+-- a list is written after what stands in a sheet, which is the same lent one
+pub record Adds (l : List Float) (old new : Words) : Type 0 where
+  pub stores : Stores l old.at old.sheet.now new.sheet.now new.at
+  pub same : new.sheet.ghost_name ≡ old.sheet.ghost_name
 
 abbrev pub listed : Sides → List Float
 listed Nothing = []

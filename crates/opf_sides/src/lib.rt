@@ -8,17 +8,18 @@ ghost use Rattle.opf_layout.specs.declared.OpfColumn.TheVariants.{Va};
 ghost use Rattle.opf_layout.specs.declared.OpfRow.TheVariants.{Balance};
 ghost use Rattle.opf_layout.specs.Layout.{flagged, sheds, rows, row_rank};
 ghost use Rattle.opf_assembly.specs.Assembly.{linear, column_elements, row_elements, equal_side, limit_sides, right_sides, q_sheet, b_sheet};
-ghost use Rattle.opf_sides.specs.Walks.{Stores, listed, added_word, cones_in, Narrowed};
+ghost use Rattle.opf_sides.specs.Walks.{Adds, listed, added_word, cones_in, Narrowed};
 
 use model::RowLimits;
 use model::rows::row_limits;
 use model::withdrawal::{fixed_into, flow_offset_at, shed_cap_at};
 use network::{Counts, Field, Grid, Part, Plan};
-use opf_layout::{OpfColumn, OpfLayout, OpfRow, one_if, sheds_at};
+use opf_layout::{OpfColumn, OpfLayout, OpfRow, sheds_at};
 use program_builder::{lin, rhs};
 
 // The right sides of one element, by value: none where its limit is inactive, two for a linear row with two limits. It
-// is a list of at most two words, which need no heap so, and says nothing of what is done with them.
+// is a list of at most two words, which need no heap so, and says nothing of what is done with them. A pair of options
+// could also hold a second word without a first.
 #[derive(Clone, Copy)]
 pub enum Sides {
     Nothing,
@@ -112,22 +113,49 @@ fn sides_of(plan: &Plan<'_>, b: OpfRow, i: usize) -> Sides
     }
 }
 
-// An element's right sides from row `at` on; the next row.
-fn put_sides(b: &mut [f64], at: usize, s: Sides) -> usize
-    requires { at + length (listed s) ≤ length b.old }
-    ensures { Stores (listed s) at b.old b.new result }
-{
-    match s {
-        Sides::Nothing => at,
-        Sides::One(v) => {
-            rhs(b, at, v);
-            at + 1
+// Words that are written one after the other into a lent sheet.
+#[derive(Drop)]
+pub struct Words<'a> {
+    pub sheet: &'a mut [f64],
+    pub at: usize,
+}
+
+impl Words<'_> {
+    // A right side in the next row.
+    fn put(&mut self, v: f64)
+        requires { self.old.at < length self.old.sheet.now }
+        ensures { Adds (v ∷ []) self.old self.new }
+    {
+        rhs(self.sheet, self.at, v);
+        self.at += 1;
+    }
+
+    // An element's right sides.
+    fn put_sides(&mut self, s: Sides)
+        requires { self.old.at + length (listed s) ≤ length self.old.sheet.now }
+        ensures { Adds (listed s) self.old self.new }
+    {
+        match s {
+            Sides::Nothing => {}
+            Sides::One(v) => self.put(v),
+            Sides::Two(v, u) => {
+                self.put(v);
+                self.put(u);
+            }
         }
-        Sides::Two(v, u) => {
-            rhs(b, at, v);
-            rhs(b, at + 1, u);
-            at + 2
-        }
+    }
+
+    // An element's word of q, which begins at 0, where it has a column.
+    fn put_added(&mut self, added: Option<f64>)
+        requires { self.old.at + length (added_word added) ≤ length self.old.sheet.now }
+        ensures { Adds (added_word added) self.old self.new }
+    {
+        let Some(value) = added else {
+            return;
+        };
+        rhs(self.sheet, self.at, 0.0);
+        lin(self.sheet, self.at, value);
+        self.at += 1;
     }
 }
 
@@ -169,10 +197,13 @@ pub fn put_b(grid: &Grid<'_>, b: &mut [f64])
     ensures { b.new ≡ front (b_sheet grid.now.plan.counts grid.now.plan.wiring.now grid.now.plan.readings.now) b.old }
 {
     fixed_into(grid, b);
-    let mut at = grid.plan.counts.buses;
+    let mut words = Words {
+        sheet: b,
+        at: grid.plan.counts.buses,
+    };
     for block in &ROWS {
         for i in 0..row_elements(grid.plan.counts, *block) {
-            at = put_sides(b, at, sides_of(&grid.plan, *block, i));
+            words.put_sides(sides_of(&grid.plan, *block, i));
         }
     }
 }
@@ -189,19 +220,6 @@ fn linear_of(plan: &Plan<'_>, k: OpfColumn, i: usize) -> Option<f64>
         OpfColumn::Shed => { sheds_at(plan, i).then_some(plan.reading(Field::CShed, i)) }
         OpfColumn::Cost => (plan.word(Part::Segments, i) != 0).then_some(1.0),
     }
-}
-
-// An element's word, which begins at 0; the next column.
-fn put_linear(q: &mut [f64], at: usize, added: Option<f64>) -> usize
-    requires { at + length (added_word added) ≤ length q.old }
-    ensures { Stores (added_word added) at q.old q.new result }
-{
-    let Some(value) = added else {
-        return at;
-    };
-    rhs(q, at, 0.0);
-    lin(q, at, value);
-    at + 1
 }
 
 // How many elements stand behind a block of columns.
@@ -229,31 +247,19 @@ pub fn put_q(plan: &Plan<'_>, q: &mut [f64])
     requires { length (q_sheet plan.now.counts plan.now.wiring.now plan.now.readings.now) ≤ length q.old }
     ensures { q.new ≡ front (q_sheet plan.now.counts plan.now.wiring.now plan.now.readings.now) q.old }
 {
-    let mut at = 0;
+    let mut words = Words { sheet: q, at: 0 };
     for block in &COLUMNS {
         for i in 0..column_elements(plan.counts, *block) {
-            at = put_linear(q, at, linear_of(plan, *block, i));
+            words.put_added(linear_of(plan, *block, i));
         }
     }
-}
-
-// A cone's size where there is one; the next place.
-fn put_size(sizes: &mut [u32], at: usize, on: bool, v: usize) -> usize
-    requires { (at + length (when on (v ∷ [])) ≤ length sizes.old) × (v < 0x1_0000_0000) }
-    ensures { Stores (when on (v ∷ [])) at sizes.old sizes.new result }
-{
-    if on {
-        sizes[at] = v as u32;
-        return at + 1;
-    }
-    at
 }
 
 // How many cones there are: two, and the linear ones only if above 0.
 pub fn cone_count(lay: OpfLayout) -> usize
     ensures { result ≡ length (cones_in lay) }
 {
-    2 + one_if(lay.active.equalities != 0) + one_if(lay.active.inequalities != 0)
+    2 + usize::from(lay.active.equalities != 0) + usize::from(lay.active.inequalities != 0)
 }
 
 // The cones' sizes, in row order.
@@ -264,8 +270,14 @@ pub fn put_cones(lay: OpfLayout, sizes: &mut [u32])
 {
     let equalities = lay.active.equalities;
     let inequalities = lay.active.inequalities;
-    let k = put_size(sizes, 0, true, lay.n_eq);
-    let k = put_size(sizes, k, true, lay.n_ineq);
-    let k = put_size(sizes, k, equalities != 0, equalities);
-    put_size(sizes, k, inequalities != 0, inequalities);
+    sizes[0] = lay.n_eq as u32;
+    sizes[1] = lay.n_ineq as u32;
+    let mut k = 2;
+    if equalities != 0 {
+        sizes[k] = equalities as u32;
+        k += 1;
+    }
+    if inequalities != 0 {
+        sizes[k] = inequalities as u32;
+    }
 }

@@ -1,5 +1,5 @@
 -- A column that is touched word by word: none, one word, one list of touches and then another; where a block's rows stand.
--- Main results: `one`, `then`, `inside`, `still`, `word`; `shift_room`, `shift_is`. Assumes nothing.
+-- Main results: `still`, `then`, `inside`, `word`; `shift_room`, `shift_is`. Assumes nothing.
 use mathlib.Core.Path.{◌≡◌, refl, ap, ◌∙◌}
 use mathlib.Core.List.{List, [], ◌∷◌, ◌++◌}
 use Prim.Native.Nat.{ℕ, ◌+◌, ◌≤◌, ◌<◌}
@@ -23,15 +23,17 @@ use Rattle.kkt_index.proofs.Starts.{below_dim}
 use Rattle.parameter_column.specs.declared.How.{How}
 use Rattle.parameter_column.specs.declared.Served.TheVariants.{ConstraintLimit}
 use Rattle.parameter_column.specs.Columns.{Touch, touch, touched, touched_at, word_of, valued, limit_marks, touches}
+use Rattle.parameter_column.specs.declared.column.Column.{Column}
+use Rattle.parameter_column.specs.Moves.{Moves}
 use Rattle.parameter_column.specs.Walks.{Touched, Fitted, rows_in, shift_touches}
 
 module _ (start : Block → ℕ) where
-  pub nothing : (old : List Float) → Touched start [] old old
+  nothing : (old : List Float) → Touched start [] old old
   unfolding word_of
   nothing old = record { at = λ r. refl; kept = refl }
 
   -- one word
-  pub one : {old new : List Float} {k : ℕ} (b : Block) (i : ℕ) (h : How) (v : Float) → k ≡ start b + i → k < length old → new ≡ set old k (touched h (get_or old k nan) v)
+  one : {old new : List Float} {k : ℕ} (b : Block) (i : ℕ) (h : How) (v : Float) → k ≡ start b + i → k < length old → new ≡ set old k (touched h (get_or old k nan) v)
       → Touched start (touch b i h v ∷ []) old new
   unfolding word_of
   one {old} {new} {k} b i h v e l q = record {
@@ -44,33 +46,36 @@ module _ (start : Block → ℕ) where
   word_append [] us r a = refl
   word_append (t ∷ ts) us r a = word_append ts us r (touched_at start t r a)
 
-  pub then : {ts us : List Touch} {x y z : List Float} → Touched start ts x y → Touched start us y z → Touched start (ts ++ us) x z
-  then {ts} {us} {x} p q = record {
+  both : {ts us : List Touch} {x y z : List Float} → Touched start ts x y → Touched start us y z → Touched start (ts ++ us) x z
+  both {ts} {us} {x} p q = record {
     at = λ r. q.at r ∙ rw (p.at r, word_append ts us r (get_or x r nan));
     kept = q.kept ∙ p.kept;
   }
+
+-- ---- a column that is touched
+
+pub still : {x : Column} → Moves [] x x
+still {x} = record { touched = nothing (start_in x.index) x.words.now; counts = refl; index = refl; same_words = refl }
+
+pub then : {ts us : List Touch} {x y z : Column} → Moves ts x y → Moves us y z → Moves (ts ++ us) x z
+then {x = x} p q = record {
+  touched = both (start_in x.index) p.touched (rw p.index at q.touched);
+  counts = q.counts ∙ p.counts;
+  index = q.index ∙ p.index;
+  same_words = q.same_words ∙ p.same_words;
+}
 
 -- ---- where a block's rows stand
 
 pub inside : {c : Counts} {x : KktIdx} {column : List Float} → Fitted c x column → (b : Block) (k : ℕ) → k < rows_in c x b → start_in x b + k < length column
 inside {c} {x} h b k g = omega (arith, below_dim h.indexed b k g, h.room)
 
--- after some touches the column is as long as before
-pub still : {c : Counts} {x : KktIdx} {ts : List Touch} {old new : List Float} → Fitted c x old → Touched (start_in x) ts old new → Fitted c x new
-still {c} {x} h t = record { few = h.few; indexed = h.indexed; narrow = h.narrow; room = omega (arith, h.room, t.kept) }
-
 -- one word of a column that fits
 pub word : {c : Counts} {x : KktIdx} {old new : List Float} {k : ℕ} (b : Block) (i : ℕ) (h : How) (v : Float) → Fitted c x old → i < rows_in c x b → k ≡ start_in x b
-    → new ≡ set old (k + i) (touched h (get_or old (k + i) nan) v) → Touched (start_in x) (touch b i h v ∷ []) old new × Fitted c x new
-word {c} {x} {old} {new} {k} b i h v f l e q =
-    let t = one (start_in x) {old = old} {new = new} {k = k + i} b i h v (ap (λ (j : ℕ). j + i) e) (omega (arith, e, inside f b i l)) q in
-    (t, still f t)
+    → new ≡ set old (k + i) (touched h (get_or old (k + i) nan) v) → Touched (start_in x) (touch b i h v ∷ []) old new
+word {c} {x} {old} {new} {k} b i h v f l e q = one (start_in x) {old = old} {new = new} {k = k + i} b i h v (ap (λ (j : ℕ). j + i) e) (omega (arith, e, inside f b i l)) q
 
 -- ---- linear rows
-
--- a row's rows, whose limits are known
-pub rows_known : {l g : RowLimits} (start n : ℕ) → l ≡ g → start + rows_of l ≤ n → start + rows_of g ≤ n
-rows_known start n e h = rw e at h
 
 -- the rows of linear row q lie within the block
 pub shift_room : (c : Counts) (w : List ℕ) (r : List Float) (q : ℕ) {start n : ℕ} {l : RowLimits} → q < c.rows → start ≡ linear_start c w r q → l ≡ row_limits c w r q → n ≡ linear_row_count c w r → start + rows_of l ≤ n

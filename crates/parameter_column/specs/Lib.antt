@@ -2,3 +2,4 @@
 pub mod Columns
 pub mod Points
 pub mod Walks
+pub mod Moves

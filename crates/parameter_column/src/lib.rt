@@ -1,28 +1,31 @@
 // sens/dc.rs, `parameter_jacobian`: one column, the partial of the KKT residual in one parameter.
 #![tactic(auto)]
 
+pub mod column;
+
 ghost use Rattle.std.specs.Prelude.{◌≡◌, List, [], ◌∷◌, ℕ, ◌+◌, ◌<◌, ◌≤◌, Float};
 ghost use Rattle.network.specs.Layout.{reading};
-ghost use Rattle.network.specs.Numbers.{Termed};
 ghost use Rattle.solution.specs.Sheet.{SheetLaid};
-ghost use Rattle.kkt_index.specs.Index.{rows_of, linear_start, linear_row_count, start_in};
+ghost use Rattle.kkt_index.specs.Index.{rows_of, linear_start, linear_row_count};
 ghost use Rattle.snapping.specs.Expr.{eval, none, unit};
 ghost use Rattle.snapping.specs.Snap.{if_fixed};
 ghost use Rattle.parameter_column.specs.declared.Served.TheVariants.{Demand, CostQuadratic, LineLimit, BranchSusceptance, Switching, ConstraintLimit};
 ghost use Rattle.parameter_column.specs.Columns.{touch, touches, gamma_across, gamma_marks};
 ghost use Rattle.parameter_column.specs.Points.{touches_at, valued_at, value_at, flow_dual};
-ghost use Rattle.parameter_column.specs.Walks.{Touched, Fitted, rows_in, weight_touches, shift_touches};
+ghost use Rattle.parameter_column.specs.Walks.{rows_in, weight_touches, shift_touches};
+ghost use Rattle.parameter_column.specs.Moves.{Moves};
 
-use kkt_index::{Block, KktIdx, rows_of};
+use column::Column;
+use kkt_index::{Block, rows_of};
 use model::RowLimits;
 use model::rows::row_limits;
 use network::layout::{reading, word};
-use network::{Counts, Field, Grid, Part, Plan};
+use network::{Field, Grid, Part, Plan};
 use snapping::{
     LinearDuals, across, angle, gamma_lb_of, gamma_ub_of, is_fixed_zero_shed, mu_ub_of,
     snap_linear_at,
 };
-use solution::{Entry, OperatingPoint, solved_at};
+use solution::{Entry, OperatingPoint, PointSite, solved_at};
 
 // What is done with a word of a column. The definitions say it of each word, beside its row and its value, so it is a
 // part of what a column is, and `touch` is the one place that runs it.
@@ -45,18 +48,19 @@ pub enum Served {
     ConstraintLimit,
 }
 
-// One word of a column.
-pub fn touch(c: Counts, idx: KktIdx, column: &mut [f64], b: Block, i: usize, how: How, v: f64)
-    requires fitted { Fitted c idx column.old }
-    requires i_bound { i < rows_in c idx b }
-    ensures touched { Touched (start_in idx) (touch b i how v ∷ []) column.old column.new }
-    ensures fitted_2 { Fitted c idx column.new }
-{
-    let word = &mut column[idx.start(b) + i];
-    match how {
-        How::Put => *word = v,
-        How::Plus => *word += v,
-        How::Less => *word -= v,
+impl Column<'_> {
+    // One word.
+    pub fn touch(&mut self, b: Block, i: usize, how: How, v: f64)
+        requires { i < rows_in self.old.counts self.old.index b }
+        ensures { Moves (touch b i how v ∷ []) self.old self.new }
+    {
+        let at = self.index.start(b) + i;
+        let word = self.words[at];
+        self.words[at] = match how {
+            How::Put => v,
+            How::Plus => word + v,
+            How::Less => word - v,
+        };
     }
 }
 
@@ -73,85 +77,73 @@ fn cap_rate(plan: &Plan<'_>, i: usize) -> f64
 }
 
 // Bus i's demand: its balance, and its cap.
-pub fn demand_column(point: &OperatingPoint<'_>, idx: KktIdx, i: usize, column: &mut [f64])
-    requires fitted { Fitted point.now.grid.plan.counts idx column.old }
+pub fn demand_column(point: &OperatingPoint<'_>, i: usize, column: &mut Column<'_>)
+    requires same_counts { column.old.counts ≡ point.now.grid.plan.counts }
     requires i_lt_buses { i < point.now.grid.plan.counts.buses }
-    ensures { (ti : List ℕ) (tc : List Float) → Touched (start_in idx) (touches_at point.now ti tc Demand i) column.old column.new }
+    ensures { (ti : List ℕ) (tc : List Float) → Moves (touches_at point.now ti tc Demand i) column.old column.new }
 {
-    let c = point.grid.plan.counts;
     let mu = mu_ub_of(&point.grid.plan, point.sheet, point.pieces, i)
         * cap_rate(&point.grid.plan, i);
-    touch(c, idx, column, Block::NuBal, i, How::Put, -1.0);
-    touch(c, idx, column, Block::MuUb, i, How::Put, mu);
+    column.touch(Block::NuBal, i, How::Put, -1.0);
+    column.touch(Block::MuUb, i, How::Put, mu);
 }
 
 // Generator j's quadratic cost: twice its power.
 // Here and in `limit_column`: the sheet alone; an operating point would ask for a grid too.
-pub fn quadratic_column(solution: &[f64], c: Counts, idx: KktIdx, j: usize, column: &mut [f64])
-    requires sheet_laid { SheetLaid c idx.pieces solution.now }
-    requires fitted { Fitted c idx column.old }
-    requires j_lt_generators { j < c.generators }
-    ensures { (w ti : List ℕ) (tc r : List Float) → Touched (start_in idx) (touches c w ti tc idx.pieces r solution.now CostQuadratic j) column.old column.new }
+pub fn quadratic_column(solution: &[f64], j: usize, column: &mut Column<'_>)
+    requires sheet_laid { SheetLaid column.old.counts column.old.index.pieces solution.now }
+    requires j_lt_generators { j < column.old.counts.generators }
+    ensures { (w ti : List ℕ) (tc r : List Float) → Moves (touches column.old.counts w ti tc column.old.index.pieces r solution.now CostQuadratic j) column.old column.new }
 {
-    touch(
-        c,
-        idx,
-        column,
+    column.touch(
         Block::Pg,
         j,
         How::Put,
-        2.0 * solved_at(solution, c, idx.pieces, Entry::Pg, j),
+        2.0 * solved_at(solution, column.counts, column.index.pieces, Entry::Pg, j),
     );
 }
 
 // Branch e's thermal limit: both complementarity rows.
-pub fn limit_column(solution: &[f64], c: Counts, idx: KktIdx, e: usize, column: &mut [f64])
-    requires sheet_laid { SheetLaid c idx.pieces solution.now }
-    requires fitted { Fitted c idx column.old }
-    requires e_lt_branches { e < c.branches }
-    ensures { (w ti : List ℕ) (tc r : List Float) → Touched (start_in idx) (touches c w ti tc idx.pieces r solution.now LineLimit e) column.old column.new }
+pub fn limit_column(solution: &[f64], e: usize, column: &mut Column<'_>)
+    requires sheet_laid { SheetLaid column.old.counts column.old.index.pieces solution.now }
+    requires e_lt_branches { e < column.old.counts.branches }
+    ensures { (w ti : List ℕ) (tc r : List Float) → Moves (touches column.old.counts w ti tc column.old.index.pieces r solution.now LineLimit e) column.old column.new }
 {
-    let lower = solved_at(solution, c, idx.pieces, Entry::LamLb, e);
-    let upper = solved_at(solution, c, idx.pieces, Entry::LamUb, e);
-    touch(c, idx, column, Block::LamLb, e, How::Put, lower);
-    touch(c, idx, column, Block::LamUb, e, How::Put, upper);
+    let c = column.counts;
+    let p = column.index.pieces;
+    let lower = solved_at(solution, c, p, Entry::LamLb, e);
+    let upper = solved_at(solution, c, p, Entry::LamUb, e);
+    column.touch(Block::LamLb, e, How::Put, lower);
+    column.touch(Block::LamUb, e, How::Put, upper);
 }
 
 // What a branch's weight moves: both balances, the flow definition, both angles' stationarity.
 fn weight_column(
     grid: &Grid<'_>,
-    idx: KktIdx,
     e: usize,
     flow: f64,
     at_from: f64,
     at_to: f64,
-    column: &mut [f64],
+    column: &mut Column<'_>,
 )
-    requires fitted { Fitted grid.now.plan.counts idx column.old }
+    requires same_counts { column.old.counts ≡ grid.now.plan.counts }
     requires e_lt_branches { e < grid.now.plan.counts.branches }
-    ensures { Touched (start_in idx) (weight_touches grid.now.plan.counts grid.now.plan.wiring.now e flow at_from at_to) column.old column.new }
+    ensures { Moves (weight_touches grid.now.plan.counts grid.now.plan.wiring.now e flow at_from at_to) column.old column.new }
 {
-    let c = grid.plan.counts;
     let from = grid.word(Part::BrFrom, e);
     let to = grid.word(Part::BrTo, e);
-    touch(c, idx, column, Block::NuBal, from, How::Plus, flow);
-    touch(c, idx, column, Block::NuBal, to, How::Less, flow);
-    touch(c, idx, column, Block::NuFlow, e, How::Plus, flow);
-    touch(c, idx, column, Block::Va, from, How::Plus, at_from);
-    touch(c, idx, column, Block::Va, to, How::Plus, at_to);
+    column.touch(Block::NuBal, from, How::Plus, flow);
+    column.touch(Block::NuBal, to, How::Less, flow);
+    column.touch(Block::NuFlow, e, How::Plus, flow);
+    column.touch(Block::Va, from, How::Plus, at_from);
+    column.touch(Block::Va, to, How::Plus, at_to);
 }
 
 // Branch e's susceptance, by its flow's dual.
-pub fn susceptance_column(
-    point: &OperatingPoint<'_>,
-    idx: KktIdx,
-    e: usize,
-    dual: f64,
-    column: &mut [f64],
-)
-    requires fitted { Fitted point.now.grid.plan.counts idx column.old }
+pub fn susceptance_column(point: &OperatingPoint<'_>, e: usize, dual: f64, column: &mut Column<'_>)
+    requires same_counts { column.old.counts ≡ point.now.grid.plan.counts }
     requires e_lt_branches { e < point.now.grid.plan.counts.branches }
-    ensures { (ti : List ℕ) (tc : List Float) → dual ≡ flow_dual point.now ti tc e → Touched (start_in idx) (touches_at point.now ti tc BranchSusceptance e) column.old column.new }
+    ensures { (ti : List ℕ) (tc : List Float) → dual ≡ flow_dual point.now ti tc e → Moves (touches_at point.now ti tc BranchSusceptance e) column.old column.new }
 {
     let c = point.grid.plan.counts;
     let w = point.grid.plan.wiring;
@@ -161,7 +153,6 @@ pub fn susceptance_column(
     let shift = point.grid.reading(Field::Shift, e);
     weight_column(
         &point.grid,
-        idx,
         e,
         sw * (dth - shift),
         -sw * dnu - sw * dual,
@@ -171,17 +162,17 @@ pub fn susceptance_column(
 }
 
 // What switching moves of branch e's angle limits.
-fn gamma_column(point: &OperatingPoint<'_>, idx: KktIdx, e: usize, column: &mut [f64])
-    requires fitted { Fitted point.now.grid.plan.counts idx column.old }
+fn gamma_column(point: &OperatingPoint<'_>, e: usize, column: &mut Column<'_>)
+    requires same_counts { column.old.counts ≡ point.now.grid.plan.counts }
     requires e_lt_branches { e < point.now.grid.plan.counts.branches }
-    ensures { Touched (start_in idx) (valued_at point.now (gamma_marks point.now.grid.plan.counts point.now.grid.plan.wiring.now e)) column.old column.new }
+    ensures { Moves (valued_at point.now (gamma_marks point.now.grid.plan.counts point.now.grid.plan.wiring.now e)) column.old column.new }
 {
     let c = point.grid.plan.counts;
     let dth = angle(point.grid.plan.wiring, point.sheet, c, point.pieces, e);
     let lower = gamma_lb_of(point, e) * (dth - point.grid.reading(Field::Angmin, e));
     let upper = gamma_ub_of(point, e) * (point.grid.reading(Field::Angmax, e) - dth);
-    touch(c, idx, column, Block::GammaLb, e, How::Plus, lower);
-    touch(c, idx, column, Block::GammaUb, e, How::Plus, upper);
+    column.touch(Block::GammaLb, e, How::Plus, lower);
+    column.touch(Block::GammaUb, e, How::Plus, upper);
 }
 
 // gamma_ub less gamma_lb, both snapped.
@@ -193,16 +184,10 @@ fn gamma_across(point: &OperatingPoint<'_>, e: usize) -> f64
 }
 
 // Branch e's switching state, by its flow's dual.
-pub fn switching_column(
-    point: &OperatingPoint<'_>,
-    idx: KktIdx,
-    e: usize,
-    dual: f64,
-    column: &mut [f64],
-)
-    requires fitted { Fitted point.now.grid.plan.counts idx column.old }
+pub fn switching_column(point: &OperatingPoint<'_>, e: usize, dual: f64, column: &mut Column<'_>)
+    requires same_counts { column.old.counts ≡ point.now.grid.plan.counts }
     requires e_lt_branches { e < point.now.grid.plan.counts.branches }
-    ensures { (ti : List ℕ) (tc : List Float) → dual ≡ flow_dual point.now ti tc e → Touched (start_in idx) (touches_at point.now ti tc Switching e) column.old column.new }
+    ensures { (ti : List ℕ) (tc : List Float) → dual ≡ flow_dual point.now ti tc e → Moves (touches_at point.now ti tc Switching e) column.old column.new }
 {
     let c = point.grid.plan.counts;
     let w = point.grid.plan.wiring;
@@ -213,14 +198,13 @@ pub fn switching_column(
     let offset = point.grid.reading(Field::FlowOffset, e);
     weight_column(
         &point.grid,
-        idx,
         e,
         b * dth - offset,
         -b * dnu - b * dual + g,
         b * dnu + b * dual - g,
         column,
     );
-    gamma_column(point, idx, e, column);
+    gamma_column(point, e, column);
 }
 
 // Where linear row q starts in its block.
@@ -232,52 +216,36 @@ fn linear_start(plan: &Plan<'_>, q: usize) -> usize
 }
 
 // A shift of linear row q's limits, by its multipliers, whose rows start at a place.
-fn shift_column(
-    c: Counts,
-    idx: KktIdx,
-    start: usize,
-    limits: RowLimits,
-    d: LinearDuals,
-    column: &mut [f64],
-)
-    requires fitted { Fitted c idx column.old }
-    requires limits_bound { (start + rows_of limits ≤ idx.linear_rows) × (start ≤ 128) }
-    ensures { Touched (start_in idx) (shift_touches start d limits) column.old column.new }
+fn shift_column(start: usize, limits: RowLimits, d: LinearDuals, column: &mut Column<'_>)
+    requires { (start + rows_of limits ≤ column.old.index.linear_rows) × (start ≤ 128) }
+    ensures { Moves (shift_touches start d limits) column.old column.new }
 {
     match limits {
         RowLimits::None => {}
         RowLimits::Upper(_) => {
-            touch(c, idx, column, Block::Linear, start, How::Put, d.upper);
+            column.touch(Block::Linear, start, How::Put, d.upper);
         }
         RowLimits::Lower(_) => {
-            touch(c, idx, column, Block::Linear, start, How::Put, -d.lower);
+            column.touch(Block::Linear, start, How::Put, -d.lower);
         }
         RowLimits::Both(_, _) => {
-            touch(c, idx, column, Block::Linear, start, How::Put, d.upper);
-            touch(c, idx, column, Block::Linear, start + 1, How::Put, -d.lower);
+            column.touch(Block::Linear, start, How::Put, d.upper);
+            column.touch(Block::Linear, start + 1, How::Put, -d.lower);
         }
         RowLimits::Equal(_) => {
-            touch(c, idx, column, Block::Linear, start, How::Put, -1.0);
+            column.touch(Block::Linear, start, How::Put, -1.0);
         }
     }
 }
 
 // A shift of linear row q's limits.
-pub fn constraint_column(
-    point: &OperatingPoint<'_>,
-    term_index: &[u32],
-    term_coefficient: &[f64],
-    idx: KktIdx,
-    q: usize,
-    column: &mut [f64],
-)
-    requires termed { Termed point.now.grid.plan.counts point.now.grid.plan.wiring.now term_index.now term_coefficient.now }
-    requires fitted { Fitted point.now.grid.plan.counts idx column.old }
-    requires q_lt_rows { (q < point.now.grid.plan.counts.rows) × (idx.linear_rows ≡ linear_row_count point.now.grid.plan.counts point.now.grid.plan.wiring.now point.now.grid.plan.readings.now) }
-    ensures { Touched (start_in idx) (touches_at point.now term_index.now term_coefficient.now ConstraintLimit q) column.old column.new }
+pub fn constraint_column(site: &PointSite<'_>, q: usize, column: &mut Column<'_>)
+    requires same_counts { column.old.counts ≡ site.now.point.grid.plan.counts }
+    requires q_lt_rows { (q < site.now.point.grid.plan.counts.rows) × (column.old.index.linear_rows ≡ linear_row_count site.now.point.grid.plan.counts site.now.point.grid.plan.wiring.now site.now.point.grid.plan.readings.now) }
+    ensures { Moves (touches_at site.now.point site.now.term_index.now site.now.term_coefficient.now ConstraintLimit q) column.old column.new }
 {
-    let limits = row_limits(&point.grid.plan, q);
-    let d = snap_linear_at(point, term_index, term_coefficient, q);
-    let start = linear_start(&point.grid.plan, q);
-    shift_column(point.grid.plan.counts, idx, start, limits, d, column);
+    let plan = &site.point.grid.plan;
+    let limits = row_limits(plan, q);
+    let d = snap_linear_at(site, q);
+    shift_column(linear_start(plan, q), limits, d, column);
 }

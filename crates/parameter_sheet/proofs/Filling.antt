@@ -1,6 +1,6 @@
 -- A column that is blank and then touched; an element of a parameter that is known.
--- Main results: `known`, `column_is`, `fitted`; `column_fits`, `part_back`, `column_long`. Assumes nothing.
-use mathlib.Core.Path.{◌≡◌, refl, sym, ap, ◌∙◌}
+-- Main results: `known`, `moved_as`, `column_is`; `column_fits`, `part_back`, `column_long`. Assumes nothing.
+use mathlib.Core.Path.{◌≡◌, refl, sym, ap, subst, ◌∙◌}
 use mathlib.Core.List.{List, [], ◌∷◌, append_assoc}
 use Prim.Native.Nat.{ℕ, ◌+◌, ◌-◌, ◌*◌, ◌≤◌, ◌<◌}
 use native.Mathlib.Nat.{le_of_eq, le_trans, suc-mul, mul-le-mul_right}
@@ -20,12 +20,18 @@ use Rattle.kkt_index.specs.Index.{linear_row_count, start_in, block_start, dim, 
 use Rattle.kkt_index.proofs.Starts.{starts}
 use Rattle.parameter_column.specs.declared.Served.{Served}
 use Rattle.parameter_column.specs.Columns.{Touch, touched_at, word_of, touches, column_words, elements}
-use Rattle.parameter_column.specs.Walks.{Touched, Fitted}
+use Rattle.parameter_column.specs.Walks.{Touched}
+use Rattle.parameter_column.specs.declared.column.Column.{Column}
+use Rattle.parameter_column.specs.Moves.{Moves}
 use Rattle.parameter_sheet.specs.Sheet.{Indexes}
 
 -- an element of a parameter that is known
 pub known : (c : Counts) (i : ℕ) {k g : Served} → k ≡ g → i < elements c k → i < elements c g
 known c i e h = rw e at h
+
+-- touches that are others' are made as they are
+pub moved_as : {ts us : List Touch} {x y : Column} → Moves ts x y → ts ≡ us → Moves us x y
+moved_as m e = rw e at m
 
 -- where the starts are the same, so is a word
 words_same : (f g : Block → ℕ) → ((b : Block) → f b ≡ g b) → (ts : List Touch) (r : ℕ) (a : Float) → word_of f ts r a ≡ word_of g ts r a
@@ -34,11 +40,11 @@ words_same f g h [] r a = refl
 words_same f g h (t ∷ ts) r a = rw (h t.block) (words_same f g h ts r (touched_at g t r a))
 
 -- a blank column, touched, is the definition's
-pub column_is : (c : Counts) (w ti : List ℕ) (tc : List Float) (r s : List Float) (x : KktIdx) (k : Served) (i : ℕ) (old : List Float) {mid new : List Float}
+column_of : (c : Counts) (w ti : List ℕ) (tc : List Float) (r s : List Float) (x : KktIdx) (k : Served) (i : ℕ) (old : List Float) {mid new : List Float}
     → Indexed c x.pieces x.linear_rows x → x.linear_rows ≡ linear_row_count c w r → length old ≡ dim c x.pieces x.linear_rows
     → mid ≡ replicate (length old) nought → Touched (start_in x) (touches c w ti tc x.pieces r s k i) mid new → new ≡ column_words c w ti tc x.pieces r s k i
 unfolding column_words
-column_is c w ti tc r s x k i old {mid} {new} h l d e t =
+column_of c w ti tc r s x k i old {mid} {new} h l d e t =
     let n : length new ≡ dim c x.pieces (linear_row_count c w r) = t.kept ∙ ap (λ (y : List Float). length y) e ∙ length-replicate (length old) nought ∙ d ∙ ap (λ (y : ℕ). dim c x.pieces y) l in
     ext_get_or nan new (made (λ t. word_of (block_start c x.pieces (linear_row_count c w r)) (touches c w ti tc x.pieces r s k i) t nought) (dim c x.pieces (linear_row_count c w r)))
     (n ∙ sym (made_length _ (dim c x.pieces (linear_row_count c w r))))
@@ -50,14 +56,12 @@ column_is c w ti tc r s x k i old {mid} {new} h l d e t =
     ∙ words_same (start_in x) (block_start c x.pieces (linear_row_count c w r)) (λ b. starts h b ∙ ap (λ (y : ℕ). block_start c x.pieces y b) l) (touches c w ti tc x.pieces r s k i) q nought
     ∙ sym (made_at _ (dim c x.pieces (linear_row_count c w r)) q nan b))
 
--- a blank column fits the system
-pub fitted : {c : Counts} {w : List ℕ} {r : List Float} {x : KktIdx} (old : List Float) {mid : List Float} → Indexes c w r x → length old ≡ x.dim → mid ≡ replicate (length old) nought → Fitted c x mid
-fitted {c} {w} {r} {x} old {mid} h d e = record {
-  few = h.few;
-  indexed = h.indexed;
-  narrow = h.narrow;
-  room = omega (arith, d, h.indexed.dim_is, ap (λ (y : List Float). length y) e, length-replicate (length old) nought);
-}
+-- the same, where the pieces are counted elsewhere
+pub column_is : (c : Counts) (w ti : List ℕ) (tc : List Float) (r s : List Float) (x : KktIdx) (k : Served) (i : ℕ) (old : List Float) {p : ℕ} {mid new : List Float}
+    → Indexed c x.pieces x.linear_rows x → x.linear_rows ≡ linear_row_count c w r → length old ≡ dim c x.pieces x.linear_rows → x.pieces ≡ p
+    → mid ≡ replicate (length old) nought → Touched (start_in x) (touches c w ti tc p r s k i) mid new → new ≡ column_words c w ti tc p r s k i
+column_is c w ti tc r s x k i old {mid = mid} {new = new} h l d q e =
+    subst (λ (p : ℕ). Touched (start_in x) (touches c w ti tc p r s k i) mid new → new ≡ column_words c w ti tc p r s k i) q (column_of c w ti tc r s x k i old h l d e)
 
 -- ---- a sheet, column after column
 

@@ -1,13 +1,12 @@
--- The nodal marginal values, bus by bus: a bus's value, and what its number fits.
--- Main results: `nodal`, `nodal_long`, `place_fits`, `next_fits`. Assumes nothing.
+-- The nodal marginal values, bus by bus: a bus's value, and where all of them stand.
+-- Main results: `nodal`, `nodal_long`, `part_front`. Assumes nothing.
 use mathlib.Core.Path.{◌≡◌}
-use mathlib.Core.List.{List}
-use Prim.Native.Nat.{ℕ, ◌+◌, ◌*◌, ◌≤◌, ◌<◌}
-use native.Mathlib.Omega.{arith}
-use mir.Syntax.{w64}
-use mir.Val.{Fits}
-use lib.ListN.{length}
+use mathlib.Core.List.{List, ◌++◌}
+use Prim.Native.Nat.{ℕ, ◌≤◌}
+use lib.ListN.{length, take, drop}
 use lib.Ieee.{Float, binary64, div}
+use Rattle.std.proofs.lemmas.List.{length-take-le}
+use Rattle.sequence.specs.Lists.{made, front}
 use Rattle.sequence.proofs.Lists.{made_length}
 use Rattle.network.specs.declared.Counts.{Counts}
 use Rattle.network.specs.declared.Field.TheVariants.{BaseMva}
@@ -25,10 +24,7 @@ pub nodal_long : (c : Counts) (w : List ℕ) (r s : List Float) → length (noda
 unfolding nodal_sheet
 nodal_long c w r s = made_length _ c.buses
 
--- a bus's place in bytes, and the number of the next bus, fit a word
-module _ {i to n : ℕ} (h : i < to) (e : to ≡ n) (k : n ≤ 256) where
-  pub place_fits : Fits w64 (i * 8)
-  place_fits = omega arith
-
-  pub next_fits : Fits w64 (i + 1)
-  next_fits = omega arith
+-- a sheet whose first n words are overwritten as a slice
+pub part_front : (f : ℕ → Float) (old : List Float) (n : ℕ) {part : List Float} → n ≤ length old → part ≡ made f (length (take n old)) → part ++ drop n old ≡ front (made f n) old
+unfolding front
+part_front f old n h e = rw (e, length-take-le n old h, made_length)

@@ -1,36 +1,33 @@
-// problem/mod.rs, `ProgramBuilder` without CSC. What it keeps is lent: a sink for P's triplets and one
-// for A's, in the order written and not merged, and a sheet for q and for b.
+// problem/mod.rs, `ProgramBuilder` without CSC. An entry of P or A is a triplet or none, which callers put into a lent
+// sink, in the order written and not merged; the sheets for q and for b are lent.
 #![tactic(auto)]
 
-ghost use Rattle.std.specs.Prelude.{◌≡◌, ◌+◌, ◌<◌, ◌≤◌, length};
-ghost use Rattle.sequence.specs.Sinks.{Gains};
-ghost use Rattle.program_builder.specs.Builder.{kept, added, replaced};
+ghost use Rattle.std.specs.Prelude.{◌≡◌, ◌<◌, length};
+ghost use Rattle.program_builder.specs.Builder.{entry, added, replaced};
 
-use sequence::{Sink, Triplet};
+use sequence::Triplet;
 
 // Entry `A[r, c]`; zeros are dropped.
-pub fn a(sink: &mut Sink<'_>, r: usize, c: usize, v: f64)
-    requires narrow { (r < 0x1_0000_0000) × (c < 0x1_0000_0000) }
-    requires few { sink.old.count < 0x4000_0000 }
-    ensures puts { Gains (kept r c v) sink.old sink.new }
-    ensures most { sink.new.count ≤ sink.old.count + 1 }
+#[inline(always)]
+pub fn a(r: usize, c: usize, v: f64) -> Option<Triplet>
+    requires { (r < 0x1_0000_0000) × (c < 0x1_0000_0000) }
+    ensures { result ≡ entry r c v }
 {
     let triplet = Triplet {
         row: r as u32,
         col: c as u32,
         value: v,
     };
-    sink.put((v != 0.0).then_some(triplet));
+    (v != 0.0).then_some(triplet)
 }
 
 // Diagonal entry `P[c, c]`.
-pub fn quad(sink: &mut Sink<'_>, c: usize, v: f64)
-    requires narrow { c < 0x1_0000_0000 }
-    requires few { sink.old.count < 0x4000_0000 }
-    ensures puts { Gains (kept c c v) sink.old sink.new }
-    ensures most { sink.new.count ≤ sink.old.count + 1 }
+#[inline(always)]
+pub fn quad(c: usize, v: f64) -> Option<Triplet>
+    requires { c < 0x1_0000_0000 }
+    ensures { result ≡ entry c c v }
 {
-    a(sink, c, c, v);
+    a(c, c, v)
 }
 
 // The linear objective's coefficient `q[c]`: adds.

@@ -7,6 +7,7 @@ ghost use Rattle.std.specs.Prelude.{◌+◌, ◌≤◌, ◌<◌, length, IfSome}
 
 use capi_sens::matrix::capi_kkt_triplets;
 
+// Read and printed by the kit's `io`: std's printing rests on three more C functions, and nothing new may be assumed.
 // Standard input and output, as every process is given them.
 const STDIN_FILENO: i32 = 0;
 
@@ -78,32 +79,28 @@ fn answered(
 fn case_at(b: &[u8]) -> Option<Replayed>
     ensures { IfSome result (λ case. (0 < case.end) × (case.end ≤ length b.now)) }
 {
-    if b.len() < 24 {
-        return None;
-    }
-    let count = length_at(b, 20);
-    let readings_at = 24 + length_at(b, 0);
-    let index_at = readings_at + length_at(b, 4);
-    let coefficient_at = index_at + length_at(b, 8);
-    let solution_at = coefficient_at + length_at(b, 12);
-    let rows_at = solution_at + length_at(b, 16);
-    let cols_at = rows_at + 4 * count;
-    let values_at = cols_at + 4 * count;
-    let end = values_at + 8 * count;
-    if b.len() < end {
-        return None;
-    }
+    let (lengths, rest) = b.split_at_checked(24)?;
+    let (wiring, rest) = rest.split_at_checked(length_at(lengths, 0))?;
+    let (readings, rest) = rest.split_at_checked(length_at(lengths, 4))?;
+    let (term_index, rest) = rest.split_at_checked(length_at(lengths, 8))?;
+    let (term_coefficient, rest) = rest.split_at_checked(length_at(lengths, 12))?;
+    let (solution, rest) = rest.split_at_checked(length_at(lengths, 16))?;
+    let count = length_at(lengths, 20);
+    let (rows, rest) = rest.split_at_checked(4 * count)?;
+    let (cols, rest) = rest.split_at_checked(4 * count)?;
+    let (values, rest) = rest.split_at_checked(8 * count)?;
     let same = answered(
-        &b[24..readings_at],
-        &b[readings_at..index_at],
-        &b[index_at..coefficient_at],
-        &b[coefficient_at..solution_at],
-        &b[solution_at..rows_at],
+        wiring,
+        readings,
+        term_index,
+        term_coefficient,
+        solution,
         count,
-        &b[rows_at..cols_at],
-        &b[cols_at..values_at],
-        &b[values_at..end],
+        rows,
+        cols,
+        values,
     );
+    let end = b.len() - rest.len();
     Some(Replayed { end, same })
 }
 

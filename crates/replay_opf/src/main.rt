@@ -22,14 +22,15 @@ struct Replayed {
 }
 
 // `main` and `replay` read as those of replay_kkt: no crate that both use prints, and a crate of these few lines is no
-// plainer.
+// plainer. They read and print by the kit's `io`, since std's printing rests on three more C functions.
 fn main() {
     let mut buffer = [0; 262144];
     let read = io::read_full(STDIN_FILENO, &mut buffer);
     replay(&buffer[..read]);
 }
 
-// The number at a place, of which the low half is looked at.
+// The number at a place, of which the low half is looked at. It stands in replay_kkt too: it is one call of std, and
+// no other crate reads two bytes, so a function of `words` would be no plainer.
 fn number_at(b: &[u8], at: usize) -> usize
     requires { at + 2 ≤ length b.now }
     ensures { result < 0x1_0000 }
@@ -41,11 +42,9 @@ fn number_at(b: &[u8], at: usize) -> usize
 fn plain_zeros(doubles: &mut [u8])
     ensures { length doubles.new ≡ length doubles.old }
 {
-    let to = doubles.len() / 8;
-    for j in 0..to {
-        let at = 8 * j;
-        if word64(doubles, at) % 0x8000_0000_0000_0000 == 0 {
-            doubles[at + 7] = 0;
+    for double in doubles.chunks_exact_mut(8) {
+        if word64(double, 0) % 0x8000_0000_0000_0000 == 0 {
+            double[7] = 0;
         }
     }
 }

@@ -14,12 +14,11 @@ ghost use Rattle.selector_check.specs.Tests.{dim_of, selector_long, selector_hol
 use contraction::Selector;
 use float64::{raw_limit, within};
 use interface::Mode;
-use kkt_index::{KktIdx, linear_rows};
+use kkt_index::KktIdx;
 use network::check::all_within;
 use network::layout::{counts, wide};
 use network::{Lent, Plan, Site};
 use sequence::Refusal;
-use solution::piece_count;
 
 // Whether a times b is at most n.
 pub fn fits(a: usize, b: usize, n: usize) -> bool
@@ -39,12 +38,7 @@ pub fn is_product(a: usize, b: usize, n: usize) -> bool
 fn dim_at(plan: &Plan<'_>) -> usize
     ensures { result ≡ dim plan.now.counts (pieces plan.now.counts plan.now.wiring.now) (linear_row_count plan.now.counts plan.now.wiring.now plan.now.readings.now) }
 {
-    let x = KktIdx::new(
-        plan.counts,
-        piece_count(plan.wiring, plan.counts),
-        linear_rows(plan),
-    );
-    x.dim
+    KktIdx::of(plan).dim
 }
 
 // The same of a network as it is lent; where its own sizes don't hold any answer will do.
@@ -70,6 +64,7 @@ pub fn site_dim(site: Site<'_>) -> usize
 }
 
 // Whether the counts sum to n. They are taken off n one after the other, so that no sum wraps.
+// A loop: `try_fold` with `checked_sub` was tried, and its promise left the proof open.
 fn counts_sum(counts: &[u32], n: usize) -> bool
     ensures { result ≡ eqb (before (λ i. get_or counts.now i 0) (length counts.now)) n }
 {
@@ -103,12 +98,7 @@ fn selector_holds(selector: Selector<'_>) -> bool
 fn rows_below(rows: &[u32], dim: usize) -> bool
     ensures { result ≡ rows_below dim rows.now }
 {
-    for row in rows {
-        if dim <= wide(*row) {
-            return false;
-        }
-    }
-    true
+    rows.iter().all(|&row| wide(row) < dim)
 }
 
 // A network with a selector and a mode, and with a call's further sizes and values, where none of the numbers 1 to 5

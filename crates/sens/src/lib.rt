@@ -4,11 +4,11 @@
 ghost use Rattle.std.specs.Prelude.{◌≡◌, ◌*◌, ◌≤◌, length, IfOk};
 ghost use Rattle.sequence.specs.Answers.{first_of, number_of, answered};
 ghost use Rattle.network.specs.Sites.{network_in, SiteOf};
-ghost use Rattle.contraction.specs.Contraction.{selection_sheet, Entered};
+ghost use Rattle.contraction.specs.Contraction.{selection_sheet};
 ghost use Rattle.contraction.specs.Selectors.{selector_in};
 ghost use Rattle.sens.specs.Calls.{count_fits, first_tests, FirstAccepted, fills_if, first_call, front_of, side_of, solved_long, third_long, third_holds, third_tests, third_call, ThirdAccepted};
 
-use contraction::{Selector, contract, select};
+use contraction::{Entries, Selector, Sides};
 use float64::{parameter_limit, sheet_limit};
 use interface::Mode;
 use network::check::all_within;
@@ -39,16 +39,15 @@ fn accept_first<'a>(
 }
 
 // The selection sheet, where it has room.
-fn lay_selection(selector: Selector<'_>, dim: usize, selection: &mut [f64]) -> Answer
-    requires { Entered (selector_in selector) dim }
-    ensures { answered result selection.new ≡ fills_if (selection_sheet (selector_in selector.entry) dim) selection.old }
+fn lay_selection(entries: Entries<'_>, selection: &mut [f64]) -> Answer
+    ensures { answered result selection.new ≡ fills_if (selection_sheet (selector_in entries.entry.selector) entries.entry.dim) selection.old }
 {
-    let elements = selector.counts.len();
-    if !fits(dim, elements, selection.len()) {
+    let elements = entries.selector.counts.len();
+    if !fits(entries.dim, elements, selection.len()) {
         return Err(Refusal::Short);
     }
-    select(selector, dim, selection);
-    Ok(dim * elements)
+    entries.select(selection);
+    Ok(entries.dim * elements)
 }
 
 // Before the solve: the count of the right side, and when adjoint the selection sheet.
@@ -65,7 +64,7 @@ pub fn contraction_first(
     let dim = site_dim(site);
     match mode {
         Mode::Forward => Ok(dim * columns),
-        Mode::Adjoint => lay_selection(selector, dim, selection),
+        Mode::Adjoint => lay_selection(Entries { selector, dim }, selection),
         Mode::Auto => Err(Refusal::Kind),
     }
 }
@@ -123,10 +122,9 @@ fn third_is_long(
 fn third_holds(dim: usize, columns: usize, parameter: &[f64], solved: &[f64]) -> bool
     ensures { dim * columns ≤ length parameter.now → result ≡ third_holds (dim * columns) parameter.now solved.now }
 {
-    if !fits(dim, columns, parameter.len()) {
-        return false;
-    }
-    all_within(&parameter[..dim * columns], parameter_limit()) && all_within(solved, sheet_limit())
+    fits(dim, columns, parameter.len())
+        && all_within(&parameter[..dim * columns], parameter_limit())
+        && all_within(solved, sheet_limit())
 }
 
 // The third call's network, where none of its numbers is due but its output's room.
@@ -150,13 +148,13 @@ fn accept_third<'a>(
 }
 
 // After the solve: the solved columns contracted, "element by element, columns within".
-pub fn contraction_third(
+pub fn contraction_third<'a>(
     lent: Lent<'_>,
     mode: Mode,
-    selector: Selector<'_>,
+    selector: Selector<'a>,
     columns: usize,
-    parameter: &[f64],
-    solved: &[f64],
+    parameter: &'a [f64],
+    solved: &'a [f64],
     out: &mut [f64],
 ) -> Answer
     ensures { answered result out.new ≡ third_call (network_in lent.entry) mode (selector_in selector.entry) columns parameter.now solved.now out.old }
@@ -166,14 +164,17 @@ pub fn contraction_third(
     if !fits(elements, columns, out.len()) {
         return Err(Refusal::Short);
     }
-    contract(
-        mode,
+    let entries = Entries {
         selector,
-        site_dim(site),
+        dim: site_dim(site),
+    };
+    let sides = Sides {
+        mode,
+        entries,
         columns,
         parameter,
         solved,
-        out,
-    );
+    };
+    sides.contract(out);
     Ok(elements * columns)
 }

@@ -2,16 +2,16 @@
 -- Main results: `put_all`, `short_is`, `room_of`, `few_elements`; `lay_short`, `lay_done`; `selector_refused`, `selector_unknown`, `selector_served`. Assumes nothing.
 use mathlib.Core.Path.{◌≡◌, refl, sym, ap, ◌∙◌}
 use mathlib.Core.Bool.{Bool, true, false, ◌||◌}
-use mathlib.Core.List.{List, [], ◌∷◌, ◌++◌}
+use mathlib.Core.List.{List, [], ◌∷◌, ◌++◌, append-nil}
 use Prim.Native.Nat.{ℕ, zero, suc, ◌+◌, ◌≤◌}
 use native.Mathlib.Numerals.{add-one}
 use native.Mathlib.Omega.{arith}
 use lib.Dec.{ltb}
 use lib.ListN.{length, set, take, drop, replicate}
-use lib.Seq.{length-take-le}
+use lib.Seq.{length-take-le, drop-length}
 use Rattle.std.proofs.lemmas.List.{length-replicate, replicate_more}
 use lib.Ieee.{Float}
-use Rattle.std.specs.Prelude.{Option, Some, None}
+use Rattle.std.specs.Prelude.{Option, Some, None, Result, Ok, Err, ok_or}
 use borrow.Author.Tests.{ltb-false, ne_eqb}
 use Rattle.float64.specs.Values.{one}
 use Rattle.sequence.specs.Lists.{made, front}
@@ -34,15 +34,25 @@ unfolding made
 made_equal zero v = refl
 made_equal (suc n) v = ap (λ (l : List _). l ++ v ∷ []) (made_equal n v) ∙ replicate_more n v ∙ rw add-one
 
+-- a front as long as its sheet is all of it
+pub whole : {A : Type 0} (f : ℕ → A) (old : List A) → front (made f (length old)) old ≡ made f (length old)
+unfolding front
+whole f old = rw (made_length, drop-length, append-nil)
+
+-- a part whose n words were made
+made_part : {A : Type 0} {new : List A} (f : ℕ → A) (n : ℕ) (xs : List A) → n ≤ length xs → new ≡ made f (length (take n xs)) → new ++ drop n xs ≡ front (made f n) xs
+unfolding front
+made_part f n xs h e = rw (e, length-take-le n xs h, made_length)
+
 -- a sheet whose first n words were filled
 filled : {A : Type 0} {new : List A} (xs : List A) (n : ℕ) (v : A) → n ≤ length xs → new ≡ replicate (length (take n xs)) v → new ++ drop n xs ≡ front (made (λ i. v) n) xs
 unfolding front
 filled xs n v h e = rw (e, made_equal n v, length-replicate, length-take-le n xs h)
 
-pub put_all : (s : List Float) (k r : List ℕ) (w : List Float) {k' r' : List ℕ} {w' : List Float} (start n : ℕ) → 1 ≤ length s → n ≤ length k → n ≤ length w
-    → k' ≡ replicate (length (take n k)) 1 → r' ≡ front (made (λ i. start + i) n) r → w' ≡ replicate (length (take n w)) one
-    → selection (set s 0 one) (k' ++ drop n k) r' (w' ++ drop n w) ≡ fronts (unit_rows start n) (selection s k r w)
-put_all s k r w start n a b d f g h = rw (one_front one s a, filled k n 1 b f, g, filled w n one d h)
+pub put_all : (s : List Float) (k r : List ℕ) (w : List Float) {k' r' : List ℕ} {w' : List Float} (start n : ℕ) → 1 ≤ length s → n ≤ length k → n ≤ length r → n ≤ length w
+    → k' ≡ replicate (length (take n k)) 1 → r' ≡ made (λ i. start + i) (length (take n r)) → w' ≡ replicate (length (take n w)) one
+    → selection (set s 0 one) (k' ++ drop n k) (r' ++ drop n r) (w' ++ drop n w) ≡ fronts (unit_rows start n) (selection s k r w)
+put_all s k r w start n a b i d f g h = rw (one_front one s a, filled k n 1 b f, made_part (λ i. start + i) n r i g, filled w n one d h)
 
 -- ---- room
 
@@ -82,6 +92,16 @@ module _ (c : Counts) (w : List ℕ) (r : List Float) (k : Reported) (S : Select
   pub lay_done : b ≡ false → {new : Selection} {n : ℕ} → new ≡ fronts (selector_of c w r k) S → n ≡ elements c k → selected 0 n new ≡ served_laid c w r k S
   unfolding served_laid
   lay_done t h q = rw (sym e ∙ t, h, q)
+
+-- ---- what an option is that was made a result
+
+pub some_of : {A E : Type 0} (o : Option A) (e : E) {x : A} {r : Result A E} → r ≡ ok_or o e → r ≡ Ok x → o ≡ Some x
+some_of None e p q = cc
+some_of (Some y) e p q = cc
+
+pub none_of : {A E : Type 0} (o : Option A) (e : E) {y : E} {r : Result A E} → r ≡ ok_or o e → r ≡ Err y → (o ≡ None) × (y ≡ e)
+none_of None e p q = (refl, cc)
+none_of (Some x) e p q = absurd cc
 
 -- ---- the call
 

@@ -2,16 +2,15 @@
 #![tactic(auto)]
 
 ghost use Rattle.std.specs.Prelude.{◌≡◌, ◌||◌, ◌+◌, ◌≤◌, length, ltb};
-ghost use Rattle.sequence.specs.Lists.{made, front};
+ghost use Rattle.sequence.specs.Lists.{made};
 ghost use Rattle.sequence.specs.Answers.{number_of, count_of};
 ghost use Rattle.network.specs.Sites.{network_in};
 ghost use Rattle.sens_operands.specs.Calls.{served_of, block_of, elements, selection, unit_rows, start_of, fronts, selected, served_laid, selector_call};
 
 use interface::{End, Operand, Power, VoltageKind};
-use kkt_index::{Block, KktIdx, linear_rows};
+use kkt_index::{Block, KktIdx};
 use network::{Counts, Lent, Site};
 use sequence::{Answer, Refusal};
-use solution::piece_count;
 
 // The operands that are served.
 #[derive(Clone, Copy, Debug, PartialEq, Eq)]
@@ -63,13 +62,13 @@ pub fn served_of(o: Operand) -> Option<Reported>
     }
 }
 
-// The rows of a block: each word is made of its index, so a loop over the indexes is as plain as one over the words.
-fn put_rows(rows: &mut [u32], start: usize, n: usize)
-    requires { (n ≤ length rows.old) × (start ≤ 0x1_0000) × (n ≤ 512) }
-    ensures { rows.new ≡ front (made (λ i. start + i) n) rows.old }
+// The rows of a block, from its start on.
+fn put_rows(rows: &mut [u32], start: usize)
+    requires { (start ≤ 0x1_0000) × (length rows.old ≤ 512) }
+    ensures { rows.new ≡ made (λ i. start + i) (length rows.old) }
 {
-    for i in 0..n {
-        rows[i] = (start + i) as u32;
+    for (i, row) in rows.iter_mut().enumerate() {
+        *row = (start + i) as u32;
     }
 }
 
@@ -77,9 +76,7 @@ fn put_rows(rows: &mut [u32], start: usize, n: usize)
 fn start_of(site: Site<'_>, k: Reported) -> usize
     ensures { (result ≡ start_of site.entry.grid.plan.counts site.entry.grid.plan.wiring.now site.entry.grid.plan.readings.now k) × (result ≤ 0x1_0000) }
 {
-    let l = linear_rows(&site.grid.plan);
-    let p = piece_count(site.grid.plan.wiring, site.grid.plan.counts);
-    KktIdx::new(site.grid.plan.counts, p, l).start(k.block())
+    KktIdx::of(&site.grid.plan).start(k.block())
 }
 
 // Whether one of the four sheets has no room for so many elements.
@@ -90,6 +87,7 @@ fn is_short(n: usize, sign: usize, counts: usize, rows: usize, weights: usize) -
 }
 
 // The selector of n rows from a start, in front of four sheets that have room: each element has one entry, of weight 1.
+// The sheets stay single: a struct of four `&mut` would have each step promise that it keeps the four.
 fn put_selector(
     start: usize,
     n: usize,
@@ -104,7 +102,7 @@ fn put_selector(
 {
     sign[0] = 1.0;
     counts[..n].fill(1);
-    put_rows(rows, start, n);
+    put_rows(&mut rows[..n], start);
     weights[..n].fill(1.0);
 }
 
@@ -139,8 +137,6 @@ pub fn operand_selector(
     ensures { selected (number_of result) (count_of result) (selection sign.new entries.new rows.new weights.new) ≡ selector_call (network_in lent.entry) o (selection sign.old entries.old rows.old weights.old) }
 {
     let site = lent.accept()?;
-    let Some(k) = served_of(o) else {
-        return Err(Refusal::Kind);
-    };
+    let k = served_of(o).ok_or(Refusal::Kind)?;
     lay_selector(site, k, sign, entries, rows, weights)
 }

@@ -1,29 +1,39 @@
--- Tests over a list of columns, one turn after the other.
--- Main results: `some_none`, `some_more`; `columns_at`, `cost_below`, `number_5` to `number_cost`. Assumes nothing.
-use mathlib.Core.Path.{◌≡◌, refl, sym, subst}
+-- Tests over a list of columns.
+-- Main results: `all_each`, `any_each`; `columns_at`, `cost_below`, `number_5` to `number_cost`. Assumes nothing.
+use mathlib.Core.Path.{◌≡◌, refl, sym, ap, subst, ◌∙◌}
 use mathlib.Core.Bool.{Bool, true, false}
 use mathlib.Core.List.{List}
-use Prim.Native.Nat.{ℕ, ◌+◌, ◌<◌}
+use Prim.Native.Nat.{ℕ, zero, suc, ◌≤◌, ◌<◌}
+use native.Mathlib.Nat.{le_of_eq}
+use native.Mathlib.Omega.{arith}
 use native.Mathlib.Numerals.{add-one}
 use lib.Dec.{T, ltb}
-use lib.ListN.{length, get_or}
+use lib.ListN.{length, get_or, take}
 use borrow.Author.Tests.{ltb-true}
-use Rattle.sequence.specs.Lists.{some}
+use lib.Seq.{take-length}
+use Rattle.std.specs.List.{list_all, list_any}
+use Rattle.std.proofs.lemmas.List.Folds.{list_any_more}
+use Rattle.sequence.specs.Lists.{every, some}
 use Rattle.sequence.specs.Answers.{first_of}
 use Rattle.sequence.proofs.Lists.{every_at}
 use Rattle.network.specs.declared.Counts.{Counts}
+use Rattle.network.proofs.Tests.{all_first}
 use Rattle.parameter_column.specs.declared.Served.{Served}
 use Rattle.parameter_column.specs.declared.Served.TheVariants as served
 use Rattle.parameter_column.specs.Columns.{elements}
 use Rattle.sens_parameters.specs.Calls.{columns_hold, is_cost, some_piecewise, columns_number}
 
-pub some_none : (test : ℕ → Bool) → some test 0 ≡ false
-unfolding some
-some_none test = refl
+module _ {A : Type 0} (test : A → Bool) (xs : List A) (d : A) where
+  pub all_each : list_all test xs ≡ every (λ t. test (get_or xs t d)) (length xs)
+  all_each = ap (list_all test) (sym (take-length xs)) ∙ all_first test xs d (length xs) (le_of_eq refl)
 
-pub some_more : (test : ℕ → Bool) (i : ℕ) → some test i ≡ false → test i ≡ false → some test (i + 1) ≡ false
-unfolding some
-some_more test i e h = rw (add-one, e, h)
+  any_first : (n : ℕ) → n ≤ length xs → list_any test (take n xs) ≡ some (λ t. test (get_or xs t d)) n
+  unfolding some
+  any_first zero h = refl
+  any_first (suc n) h = rw add-one at (list_any_more test xs n d (omega arith)) ∙ rw (any_first n (omega arith))
+
+  pub any_each : list_any test xs ≡ some (λ t. test (get_or xs t d)) (length xs)
+  any_each = ap (list_any test) (sym (take-length xs)) ∙ any_first (length xs) (le_of_eq refl)
 
 -- ---- the columns' number
 

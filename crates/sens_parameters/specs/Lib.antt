@@ -1,2 +1,3 @@
 -- The definitions that the contracts cite: `parameter_jacobian` as a call. Assumes nothing.
 pub mod Calls
+pub mod Sites

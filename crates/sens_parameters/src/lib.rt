@@ -1,23 +1,23 @@
 // sens/dc.rs, `parameter_jacobian` as a public call.
 #![tactic(auto)]
 
-ghost use Rattle.std.specs.Prelude.{◌≡◌, ℕ, ◌*◌, ◌<◌, length, get_or, ltb, IfOk};
+ghost use Rattle.std.specs.Prelude.{◌≡◌, ℕ, ◌<◌, length, get_or, IfOk};
 ghost use Rattle.sequence.specs.Answers.{number_of, answered};
 ghost use Rattle.network.specs.Sites.{network_in};
-ghost use Rattle.solution.specs.Sheet.{pieces, SheetLaid};
 ghost use Rattle.parameter_column.specs.Columns.{elements};
-ghost use Rattle.parameter_sheet.specs.Sites.{jacobian_in};
-ghost use Rattle.sens_parameters.specs.Calls.{served_of, columns_hold, is_cost, some_piecewise, columns_number, served_number, columns_filled, columns_laid, jacobian_call};
+ghost use Rattle.sens_parameters.specs.Calls.{served_of, columns_hold, is_cost, some_piecewise, columns_number, columns_filled, columns_laid, jacobian_call};
+ghost use Rattle.sens_parameters.specs.Sites.{jacobian_at, number_at};
 
 use interface::{CostTerm, GB, Parameter, Power};
-use kkt_index::{KktIdx, linear_rows};
+use kkt_index::KktIdx;
 use network::layout::wide;
-use network::{Counts, Lent, Part, Plan, Site};
+use network::{Counts, Lent, Part, Plan};
 use parameter_column::Served;
-use parameter_sheet::fill_sheet;
+use parameter_sheet::Jacobian;
+use selector_check::fits;
 use sens_snap::duals::nu_flow_into;
 use sequence::{Answer, Refusal};
-use solution::{OperatingPoint, piece_count};
+use solution::{OperatingPoint, PointSite, SolvedSite};
 use solution_check::accept_solution;
 
 // Active demand, the two costs, line limit, susceptance, switching and constraint limit are served.
@@ -52,13 +52,8 @@ fn parameter_len(c: Counts, k: Served) -> usize
 fn columns_hold(c: Counts, k: Served, columns: &[u32]) -> bool
     ensures { result ≡ columns_hold c k columns.now }
 {
-    let most = parameter_len(c, k);
-    for column in columns {
-        if most <= wide(*column) {
-            return false;
-        }
-    }
-    true
+    let len = parameter_len(c, k);
+    columns.iter().all(|&column| wide(column) < len)
 }
 
 // Whether one of the generators has a piecewise cost.
@@ -66,12 +61,9 @@ fn some_piecewise(plan: &Plan<'_>, columns: &[u32]) -> bool
     requires { (t : ℕ) → t < length columns.now → get_or columns.now t 0 < plan.now.counts.generators }
     ensures { result ≡ some_piecewise plan.now.counts plan.now.wiring.now columns.now }
 {
-    for column in columns {
-        if plan.word(Part::Segments, wide(*column)) != 0 {
-            return true;
-        }
-    }
-    false
+    columns
+        .iter()
+        .any(|&column| plan.word(Part::Segments, wide(column)) != 0)
 }
 
 // Whether the parameter is a cost.
@@ -79,13 +71,6 @@ fn is_cost(k: Served) -> bool
     ensures { result ≡ is_cost k }
 {
     matches!(k, Served::CostQuadratic | Served::CostLinear)
-}
-
-// Whether so many columns have no room: no product that could wrap is made.
-fn is_short(room: usize, count: usize, dim: usize) -> bool
-    ensures { result ≡ ltb room (count * dim) }
-{
-    dim != 0 && room / dim < count
 }
 
 // The columns are a parameter's elements, and a cost's are not piecewise.
@@ -104,46 +89,51 @@ fn accept_columns(plan: &Plan<'_>, k: Served, columns: &[u32]) -> Result<(), Ref
 
 // The columns of a served parameter, where they have room.
 fn lay_columns(
-    site: Site<'_>,
-    solution: &[f64],
-    k: Served,
+    solved: &SolvedSite<'_>,
+    parameter: Served,
     columns: &[u32],
     sheet: &mut [f64],
 ) -> Answer
-    requires sheet_laid { SheetLaid site.grid.plan.counts (pieces site.grid.plan.counts site.grid.plan.wiring.now) solution.now }
-    requires by_index { (t : ℕ) → t < length columns.now → get_or columns.now t 0 < elements site.grid.plan.counts k }
-    ensures { answered result sheet.new ≡ columns_laid columns.now (jacobian_in site.entry (pieces site.entry.grid.plan.counts site.entry.grid.plan.wiring.now) solution.now k columns.now) sheet.old }
+    requires { (t : ℕ) → t < length columns.now → get_or columns.now t 0 < elements solved.now.site.grid.plan.counts parameter }
+    ensures { answered result sheet.new ≡ columns_laid columns.now (jacobian_at solved.now parameter columns.now) sheet.old }
 {
-    let p = piece_count(site.grid.plan.wiring, site.grid.plan.counts);
-    let l = linear_rows(&site.grid.plan);
-    let idx = KktIdx::new(site.grid.plan.counts, p, l);
-    if is_short(sheet.len(), columns.len(), idx.dim) {
+    let grid = solved.site.grid;
+    let index = KktIdx::of(&grid.plan);
+    if !fits(columns.len(), index.dim, sheet.len()) {
         return Err(Refusal::Short);
     }
-    let mut nu_flow = [0.0; 512];
-    let point = OperatingPoint {
-        grid: site.grid,
-        pieces: p,
-        sheet: solution,
+    let site = PointSite {
+        point: OperatingPoint {
+            grid,
+            pieces: index.pieces,
+            sheet: solved.sheet,
+        },
+        term_index: solved.site.term_index,
+        term_coefficient: solved.site.term_coefficient,
     };
-    nu_flow_into(&point, site.term_index, site.term_coefficient, &mut nu_flow);
-    fill_sheet(site, solution, &nu_flow, idx, k, columns, sheet);
+    let mut nu_flow = [0.0; 512];
+    nu_flow_into(&site, &mut nu_flow);
+    let jacobian = Jacobian {
+        site,
+        nu_flow: &nu_flow,
+        index,
+        parameter,
+    };
+    jacobian.fill_sheet(columns, sheet);
     Ok(columns.len())
 }
 
 // The columns of a served parameter, or why they are refused.
 fn served_columns(
-    site: Site<'_>,
-    solution: &[f64],
-    k: Served,
+    solved: &SolvedSite<'_>,
+    parameter: Served,
     columns: &[u32],
     sheet: &mut [f64],
 ) -> Answer
-    requires sheet_laid { SheetLaid site.grid.plan.counts (pieces site.grid.plan.counts site.grid.plan.wiring.now) solution.now }
-    ensures { answered result sheet.new ≡ columns_filled (served_number site.entry.grid.plan.counts site.entry.grid.plan.wiring.now site.entry.term_index.now site.entry.term_coefficient.now site.entry.grid.plan.readings.now solution.now k columns.now sheet.old) columns.now (jacobian_in site.entry (pieces site.entry.grid.plan.counts site.entry.grid.plan.wiring.now) solution.now k columns.now) sheet.old }
+    ensures { answered result sheet.new ≡ columns_filled (number_at solved.now parameter columns.now sheet.old) columns.now (jacobian_at solved.now parameter columns.now) sheet.old }
 {
-    accept_columns(&site.grid.plan, k, columns)?;
-    lay_columns(site, solution, k, columns, sheet)
+    accept_columns(&solved.site.grid.plan, parameter, columns)?;
+    lay_columns(solved, parameter, columns, sheet)
 }
 
 // The partials of the KKT residual in a parameter, one column for each listed element.
@@ -156,13 +146,10 @@ pub fn parameter_jacobian(
 ) -> Answer
     ensures { answered result sheet.new ≡ jacobian_call (network_in lent.entry) solution.now p columns.now sheet.old }
 {
-    let site = accept_solution(lent, solution, false)?;
-    let Some(k) = served_of(p) else {
-        return if columns.is_empty() {
-            Ok(0)
-        } else {
-            Err(Refusal::Kind)
-        };
-    };
-    served_columns(site, solution, k, columns, sheet)
+    let solved = accept_solution(lent, solution, false)?;
+    match served_of(p) {
+        Some(parameter) => served_columns(&solved, parameter, columns, sheet),
+        None if columns.is_empty() => Ok(0),
+        None => Err(Refusal::Kind),
+    }
 }

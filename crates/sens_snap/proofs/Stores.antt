@@ -1,16 +1,17 @@
 -- Words that are stored from a place on: one word more, one run of words more, and a whole sheet's front.
--- Main results: `Stored`, `none`, `more`; `Runs`, `no_run`, `run_more`, `run_front`, `fronted`, `three`. Assumes nothing.
+-- Main results: `Stored`, `none`, `more`; `Runs`, `no_run`, `run_more`, `run_front`, `fronted`, `three`; `all_made`, `all_runs`, `part_back`, `front_back`. Assumes nothing.
 use mathlib.Core.Path.{◌≡◌, refl, sym, ap, ◌∙◌}
-use mathlib.Core.List.{List, [], ◌∷◌, ◌++◌}
-use Prim.Native.Nat.{ℕ, suc, ◌+◌, ◌≤◌}
-use native.Mathlib.Nat.{add-zero, add-suc, suc-add, zero-add}
+use mathlib.Core.List.{List, [], ◌∷◌, ◌++◌, append-nil, append_assoc}
+use Prim.Native.Nat.{ℕ, suc, ◌+◌, ◌-◌, ◌≤◌}
+use native.Mathlib.Nat.{add-zero, add-suc, suc-add, zero-add, le_of_eq}
 use native.Mathlib.Numerals.{add-one}
 use native.Mathlib.Omega.{arith}
-use lib.ListN.{length, set, length-set, length-append}
-use lib.Seq.{sets, length-sets}
+use lib.ListN.{length, set, take, drop, length-set, length-append, length-take, length-drop}
+use lib.Seq.{sets, sets-eq, length-sets, drop-length}
+use borrow.Rule.Slice.PartMut.{put_mid, Post-is}
 use Rattle.sequence.specs.Lists.{made, each, front}
-use Rattle.sequence.proofs.Lists.{made_length, each_more}
-use Rattle.sequence.proofs.Fronts.{front_more}
+use Rattle.sequence.proofs.Lists.{made_length, each_more, front_length}
+use Rattle.sequence.proofs.Fronts.{Fronted, front_more}
 
 module _ {A : Type 0} where
   -- two runs after each other
@@ -61,3 +62,33 @@ module _ {A : Type 0} where
   -- three stores in a row
   pub three : (l : List A) (n : ℕ) (a b c : A) → set (set (set l n a) (n + 1) b) (n + 2) c ≡ sets l n (a ∷ b ∷ c ∷ [])
   three l n a b c = let z : n + 2 ≡ suc (suc n) = omega arith in rw (z, add-one)
+
+  -- a front as long as its sheet is all of it
+  pub front_all : (words old : List A) → length words ≡ length old → front words old ≡ words
+  unfolding front
+  front_all words old h = rw (h, drop-length, append-nil)
+
+  -- words that fill their sheet
+  pub all_made : {f : ℕ → A} {n : ℕ} {old new : List A} → Fronted f n old new → length old ≡ n → new ≡ made f n
+  all_made {f} {n} {old} p h = p.is ∙ front_all (made f n) old (made_length f n ∙ sym h)
+
+  -- runs that fill their sheet
+  pub all_runs : {f : ℕ → List A} {i n : ℕ} {old new : List A} → Runs f 0 i n old new → length old ≡ n → new ≡ each i f
+  all_runs {f} {i} {n} {old} p h =
+      let e : length (each i f) ≡ length old = p.long ∙ sym h in p.is ∙ fronted (each i f) old (le_of_eq e) ∙ front_all (each i f) old e
+
+  -- a part of a sheet: how long it is, and where it comes back
+  pub part_long : (a d : ℕ) (xs : List A) → a + d ≤ length xs → length (take (a + d - a) (drop a xs)) ≡ d
+  part_long a d xs h = simp (length-take, length-drop) (omega arith)
+
+  pub part_back : (a d : ℕ) (xs ys : List A) → length ys ≡ d → a + d ≤ length xs → put_mid a ((a + d) - a) xs ys ≡ sets xs a ys
+  part_back a d xs ys e h = rw (Post-is a (a + d) xs (omega arith)) (sym (sets-eq ys xs a (rw e h) ∙ rw (e, append_assoc)))
+
+  -- a front that comes back into its sheet
+  pub front_back : {f : ℕ → A} {n : ℕ} {xs ys : List A} → n ≤ length xs → ys ≡ made f n → Fronted f n xs (put_mid 0 n xs ys)
+  front_back {f} {n} {xs} {ys} h e =
+      let l = made_length f n in
+      let d : n - 0 ≡ n = omega arith in
+      let z = rw (zero-add, d) at (part_back 0 n xs (made f n) l (omega (arith, h))) in
+      let q = rw e z ∙ fronted (made f n) xs (rw l h) in
+      record { is = q; kept = ap (λ (y : List A). length y) q ∙ front_length (made f n) xs (rw l h) }

@@ -1,5 +1,5 @@
 -- The laws of `Puts`, which every loop that puts triplets cites, and what a counting and a writing pass leave.
--- Main results: `then`, `more`, `room_kept`, `lays_once`, `lays_short`, `lays_twice`. Assumes nothing.
+-- Main results: `then`, `more`, `once`, `counted`, `lays_once`, `lays_short`, `lays_twice`. Assumes nothing.
 use mathlib.Core.Path.{◌≡◌, refl, sym, ap, ◌∙◌}
 use Prim.Native.Nat.{ℕ, ◌+◌, ◌≤◌, ◌<◌, zero-le}
 use native.Mathlib.Numerals.{add-one}

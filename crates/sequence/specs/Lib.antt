@@ -6,3 +6,5 @@ pub mod Answers
 pub mod Sheets
 pub mod Links
 pub mod Sinks
+pub mod Laying
+pub mod Given

@@ -1,11 +1,16 @@
 // Answers by number, triplets into three lent sheets, and chains of equal keys.
 #![tactic(auto)]
 
+pub mod laying;
+pub mod linking;
+pub mod marking;
 pub mod putting;
 
-ghost use Rattle.std.specs.Prelude.{◌≡◌, ◌<◌, length, get_or, set};
+ghost use Rattle.std.specs.Prelude.{◌≡◌};
 ghost use Rattle.sequence.specs.Answers.{refusal_number, number_of, count_of};
 ghost use Rattle.sequence.specs.Sheets.{held, Fits, room};
+
+pub use linking::push;
 
 // Why a call refuses, in the order in which its tests are made; each has its place in that order as its number.
 #[derive(Clone, Copy, Debug, PartialEq, Eq)]
@@ -79,15 +84,4 @@ pub fn room(rows: &[u32], cols: &[u32], values: &[f64]) -> usize
     ensures { result ≡ room rows.now cols.now values.now }
 {
     rows.len().min(cols.len().min(values.len()))
-}
-
-// Index i goes before the chain of its key.
-// `head` and `next` stay single: with a struct of two `&mut`, `push` and its callers would promise to keep the two.
-pub fn push(head: &mut [u32], next: &mut [u32], key: usize, i: usize)
-    requires { (key < length head.old) × (i < length next.old) × (i < 0x1_0000) }
-    ensures head_after { head.new ≡ set head.old key i }
-    ensures next_after { next.new ≡ set next.old i (get_or head.old key 0) }
-{
-    next[i] = head[key];
-    head[key] = i as u32;
 }

@@ -17,7 +17,8 @@ use Rattle.network.specs.Layout.{counts_of, size}
 use Rattle.solution.specs.NetworkB.{wiring_b, readings_b, sheet_b}
 use Rattle.kkt.specs.Slots.Rule.{first_place}
 use Rattle.change_table.specs.Table.{is_kind, field_of}
-use Rattle.job_book.specs.Book.{Change, kind_of, index_of, given, Words, words, line, Outcome, outcome, matrix_of, changed, step}
+use Rattle.job_book.specs.declared.Change.{Change}
+use Rattle.job_book.specs.Book.{given, Words, words, line, Outcome, outcome, matrix_of, changed, step}
 use Rattle.job_book.specs.Run.{triplets}
 use Rattle.job_book.proofs.Steps.{Taken, taken}
 use Rattle.job_book.proofs.Sheets.{list_left}
@@ -61,8 +62,8 @@ module _ (o : Outcome) (h : Change) {n k : ℕ} {R C : List ℕ} {X : List Float
 
 module _ (h : Change) (R C : List ℕ) (X : List Float) where
   pub record TakenB (k : ℕ) : Type 0 where
-    pub kind : is_kind (kind_of h) ≡ true
-    pub index : index_of h < size (counts_of wiring_b) (field_of (kind_of h))
+    pub kind : is_kind h.kind ≡ true
+    pub index : h.index < size (counts_of wiring_b) (field_of h.kind)
     pub few : k ≤ 57
     pub list : triplets (take k R) (take k C) (take k X) ≡ matrix_of given_b first_place (changed given_b readings_b h)
 

@@ -6,6 +6,7 @@ use lib.ListN.{length}
 use borrow.Author.Tests.{eq-eqb, ne_eqb}
 use Rattle.words.specs.Words.{at32}
 use Rattle.kkt.specs.Slots.Rule.{first_place}
+use Rattle.job_book.specs.declared.Change.{Change}
 use Rattle.job_book.specs.Book.{change, step}
 use Rattle.site_text.specs.Text.{given_b, words_b, first_line, answered, printed}
 
@@ -13,7 +14,7 @@ pub printed_other : (input : List ℕ) → (length input ≡ 12 → ⊥) → fir
 unfolding printed
 printed_other input h = rw (ne_eqb (length input) 12 h)
 
-pub printed_change : (input : List ℕ) {head low high : ℕ} → length input ≡ 12 → head ≡ at32 input 0 → low ≡ at32 input 4 → high ≡ at32 input 8
-    → answered (step given_b first_place (λ W h. []) words_b (change head low high)) (change head low high) ≡ printed input
+pub printed_change : (input : List ℕ) {asked : Change} {head low high : ℕ} → length input ≡ 12 → asked ≡ change head low high → head ≡ at32 input 0 → low ≡ at32 input 4 → high ≡ at32 input 8
+    → answered (step given_b first_place (λ W h. []) words_b asked) asked ≡ printed input
 unfolding printed
-printed_change input h a b d = rw (a, b, d, eq-eqb (length input) 12 h)
+printed_change input h e a b d = rw (e, a, b, d, eq-eqb (length input) 12 h)

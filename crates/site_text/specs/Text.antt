@@ -11,7 +11,8 @@ use Rattle.words.specs.Words.{word_at, joined}
 use Rattle.solution.specs.NetworkB.{wiring_b, readings_b, sheet_b}
 use Rattle.kkt.specs.Slots.Rule.{first_place}
 use Rattle.change_table.specs.Table.{among, named_cells}
-use Rattle.job_book.specs.Book.{Change, change, kind_of, index_of, Given, given, Words, words, Outcome, counts_in, matrix_of, changed, step}
+use Rattle.job_book.specs.declared.Change.{Change}
+use Rattle.job_book.specs.Book.{change, Given, given, Words, words, Outcome, counts_in, matrix_of, changed, step}
 
 -- ---- network B, as a run starts with it
 
@@ -46,7 +47,7 @@ triplets_in cells [] = []
 triplets_in cells (t ∷ ts) = when (among (t.row, t.col) cells) (t ∷ []) ++ triplets_in cells ts
 
 abbrev pub named_b : Change → List Triplet
-named_b h = triplets_in (named_cells (counts_in given_b) wiring_b readings_b (kind_of h) (index_of h)) (matrix_of given_b first_place (changed given_b readings_b h))
+named_b h = triplets_in (named_cells (counts_in given_b) wiring_b readings_b h.kind h.index) (matrix_of given_b first_place (changed given_b readings_b h))
 
 abbrev pub answered : Outcome → Change → List ℕ
 answered o h = first_line o.number o.count ++ when (eqb o.number 0) (joined triplet_line (named_b h))

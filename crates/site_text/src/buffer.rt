@@ -1,4 +1,6 @@
 // Bytes that are written one after the other into a lent buffer.
+// The digits are those of the kit's `io` and not `write!`'s, which is no plainer: each call here requires its room, and
+// `write!` would hand back an error to be met after each.
 ghost use Rattle.std.specs.Prelude.{[], ◌∷◌, ◌+◌, ◌<◌, ◌≤◌, length};
 ghost use Rattle.io.specs.Digits.{last_digits};
 ghost use Rattle.sequence.specs.Answers.{number_of, count_of};

@@ -1,7 +1,7 @@
 // What the program sitechange prints.
 #![tactic(auto)]
 
-ghost use Rattle.std.specs.Prelude.{◌≡◌, [], true, ◌+◌, ◌*◌, ◌/◌, ◌%◌, ◌<◌, ◌≤◌, length, take};
+ghost use Rattle.std.specs.Prelude.{◌≡◌, [], true, ◌+◌, ◌*◌, ◌<◌, ◌≤◌, length, take};
 ghost use Rattle.io.specs.Counts.{IsPrefixLen as Counts·of};
 ghost use Rattle.sequence.specs.Answers.{number_of, count_of};
 ghost use Rattle.words.specs.Words.{joined};
@@ -10,7 +10,7 @@ ghost use Rattle.solution.specs.NetworkB.{wiring_b, readings_b, sheet_b};
 ghost use Rattle.kkt_index.specs.Index.{start_in};
 ghost use Rattle.kkt.specs.Slots.Rule.{first_place};
 ghost use Rattle.change_table.specs.Table.{is_kind, field_of, cells_of, cells_at, named_cells};
-ghost use Rattle.job_book.specs.Book.{change, words, step};
+ghost use Rattle.job_book.specs.Book.{words, step};
 ghost use Rattle.job_book.specs.Run.{triplets};
 ghost use Rattle.site_text.specs.Answers.{Answered};
 ghost use Rattle.site_text.specs.Text.{triplet_line, triplets_in, given_b, words_b, answered, printed};
@@ -21,9 +21,10 @@ mod buffer;
 use crate::buffer::Buffer;
 use change_cells::Places;
 use change_table::field_of;
-use kkt_list::index_of;
-use network::layout::{counts, wide};
-use network::{Counts, Field, Grid, Plan};
+use job_book::Change;
+use kkt_index::KktIdx;
+use network::layout::counts;
+use network::{Field, Plan, Wiring};
 use sequence::{Answer, Refusal, Triplet};
 use words::word32;
 
@@ -54,15 +55,8 @@ fn solution_b() -> [f64; 19]
 
 // The change of network B.
 // The sheets stay single, as `change` takes them.
-fn change_b(
-    rows: &mut [u32],
-    cols: &mut [u32],
-    values: &mut [f64],
-    head: u32,
-    low: u32,
-    high: u32,
-) -> Answer
-    ensures answered { Answered (number_of result) (count_of result) rows.new cols.new values.new (step given_b first_place (λ W h. []) (words readings_b rows.old cols.old values.old) (change head low high)) }
+fn change_b(rows: &mut [u32], cols: &mut [u32], values: &mut [f64], asked: Change) -> Answer
+    ensures answered { Answered (number_of result) (count_of result) rows.new cols.new values.new (step given_b first_place (λ W h. []) (words readings_b rows.old cols.old values.old) asked) }
     ensures few { count_of result < 0x1_0000_0000 }
 {
     change::change(
@@ -74,9 +68,7 @@ fn change_b(
         rows,
         cols,
         values,
-        head,
-        low,
-        high,
+        asked,
     )
 }
 
@@ -91,10 +83,10 @@ fn put_named(
     values: &[f64],
     count: usize,
 )
-    requires i_bound { i < size places.now.counts f }
+    requires i_bound { i < size places.now.wiring.counts f }
     requires count_in_bounds { (count ≤ length rows.now) × (count ≤ length cols.now) × (count ≤ length values.now) }
     requires count_in_bounds_2 { text.old.len + 59 * count ≤ length text.old.bytes.now }
-    ensures wrote { Adds (joined triplet_line (triplets_in (cells_at (start_in places.now.index) (cells_of places.now.counts places.now.wiring.now f i)) (triplets (take count rows.now) (take count cols.now) (take count values.now)))) text.old text.new }
+    ensures wrote { Adds (joined triplet_line (triplets_in (cells_at (start_in places.now.index) (cells_of places.now.wiring.counts places.now.wiring.words.now f i)) (triplets (take count rows.now) (take count cols.now) (take count values.now)))) text.old text.new }
     ensures most { text.new.len ≤ text.old.len + 59 * count }
 {
     for t in 0..count {
@@ -112,17 +104,17 @@ fn put_named(
 // The same for a change of network B, whose places no change moves.
 fn put_named_b(
     text: &mut Buffer<'_>,
-    head: u32,
+    asked: Change,
     rows: &[u32],
     cols: &[u32],
     values: &[f64],
     count: usize,
 )
-    requires head_value { is_kind (head / 0x1000_0000) ≡ true }
-    requires head_bound { head % 0x1000_0000 < size (counts_of wiring_b) (field_of (head / 0x1000_0000)) }
+    requires kind { is_kind asked.kind ≡ true }
+    requires index { asked.index < size (counts_of wiring_b) (field_of asked.kind) }
     requires count_in_bounds { (count ≤ length rows.now) × (count ≤ length cols.now) × (count ≤ length values.now) }
     requires count_in_bounds_2 { text.old.len + 59 * count ≤ length text.old.bytes.now }
-    ensures wrote { Adds (joined triplet_line (triplets_in (named_cells (counts_of wiring_b) wiring_b readings_b (head / 0x1000_0000) (head % 0x1000_0000)) (triplets (take count rows.now) (take count cols.now) (take count values.now)))) text.old text.new }
+    ensures wrote { Adds (joined triplet_line (triplets_in (named_cells (counts_of wiring_b) wiring_b readings_b asked.kind asked.index) (triplets (take count rows.now) (take count cols.now) (take count values.now)))) text.old text.new }
     ensures most { text.new.len ≤ text.old.len + 59 * count }
 {
     let wiring = wiring_b();
@@ -133,30 +125,30 @@ fn put_named_b(
         wiring: &wiring,
         readings: &readings,
     };
-    let grid = Grid { plan };
     let places = Places {
-        counts: c,
-        wiring: &wiring,
-        index: index_of(&grid),
+        wiring: Wiring {
+            counts: c,
+            words: &wiring,
+        },
+        index: KktIdx::of(&plan),
     };
-    let f = field_of(wide(head / 0x1000_0000));
-    let i = wide(head % 0x1000_0000);
-    put_named(text, &places, f, i, rows, cols, values, count);
+    let f = field_of(asked.kind);
+    put_named(text, &places, f, asked.index, rows, cols, values, count);
 }
 
 // The change's answer and, where it is accepted, its triplets.
-fn put_change(text: &mut Buffer<'_>, head: u32, low: u32, high: u32)
+fn put_change(text: &mut Buffer<'_>, asked: Change)
     requires { text.old.len + 4096 ≤ length text.old.bytes.now }
-    ensures wrote { Adds (answered (step given_b first_place (λ W h. []) words_b (change head low high)) (change head low high)) text.old text.new }
+    ensures wrote { Adds (answered (step given_b first_place (λ W h. []) words_b asked) asked) text.old text.new }
     ensures most { text.new.len ≤ text.old.len + 4096 }
 {
     let mut rows = [0u32; 57];
     let mut cols = [0u32; 57];
     let mut values = [0.0; 57];
-    let answer = change_b(&mut rows, &mut cols, &mut values, head, low, high);
+    let answer = change_b(&mut rows, &mut cols, &mut values, asked);
     text.put_first_line(answer);
     if let Ok(count) = answer {
-        put_named_b(text, head, &rows, &cols, &values, count);
+        put_named_b(text, asked, &rows, &cols, &values, count);
     }
 }
 
@@ -173,6 +165,6 @@ pub fn site_text(input: &[u8], out: &mut [u8; 4096]) -> usize
     let head = word32(input, 0);
     let low = word32(input, 4);
     let high = word32(input, 8);
-    put_change(&mut text, head, low, high);
+    put_change(&mut text, Change::of(head, low, high));
     text.len
 }

@@ -4,6 +4,7 @@
 
 use site_text::site_text;
 
+// Read and printed by the kit's `io`: std's printing rests on three more C functions, and nothing new may be assumed.
 // Standard input and output, as every process is given them.
 const STDIN_FILENO: i32 = 0;
 

@@ -20,7 +20,7 @@ use model::terms::evaluate_at;
 use model::withdrawal::shed_cap_at;
 use network::layout::{reading, word};
 use network::{Counts, Field, Part, Plan};
-use solution::{Entry, OperatingPoint, solved_at};
+use solution::{Entry, OperatingPoint, PointSite, solved_at};
 
 // The state in which a bus is found.
 #[derive(Clone, Copy)]
@@ -287,20 +287,16 @@ fn binding_dual(slack: f64, dual: f64) -> f64
 }
 
 // The snapped multipliers of linear row q.
-pub fn snap_linear_at(
-    point: &OperatingPoint<'_>,
-    term_index: &[u32],
-    term_coefficient: &[f64],
-    q: usize,
-) -> LinearDuals
-    requires termed { Termed point.now.grid.plan.counts point.now.grid.plan.wiring.now term_index.now term_coefficient.now }
-    requires q_lt_rows { q < point.now.grid.plan.counts.rows }
-    ensures { result ≡ duals point.now.grid.plan.counts point.now.grid.plan.wiring.now term_index.now term_coefficient.now point.now.pieces point.now.grid.plan.readings.now point.now.sheet.now q }
+#[inline(always)]
+pub fn snap_linear_at(site: &PointSite<'_>, q: usize) -> LinearDuals
+    requires { q < site.now.point.grid.plan.counts.rows }
+    ensures { result ≡ duals site.now.point.grid.plan.counts site.now.point.grid.plan.wiring.now site.now.term_index.now site.now.term_coefficient.now site.now.point.pieces site.now.point.grid.plan.readings.now site.now.point.sheet.now q }
 {
+    let point = &site.point;
     let value = row_value(
         point.grid.plan.wiring,
-        term_index,
-        term_coefficient,
+        site.term_index,
+        site.term_coefficient,
         point.sheet,
         point.grid.plan.counts,
         point.pieces,
@@ -348,18 +344,18 @@ pub fn snapped_at(point: &OperatingPoint<'_>, e: Entry, i: usize) -> f64
         Entry::MuLb => mu_lb_of(&point.grid.plan, point.sheet, point.pieces, i),
         Entry::GammaUb => gamma_ub_of(point, i),
         Entry::GammaLb => gamma_lb_of(point, i),
-        Entry::Va => point.value(Entry::Va, i),
-        Entry::Pg => point.value(Entry::Pg, i),
-        Entry::Flow => point.value(Entry::Flow, i),
-        Entry::NuBal => point.value(Entry::NuBal, i),
-        Entry::LamUb => point.value(Entry::LamUb, i),
-        Entry::LamLb => point.value(Entry::LamLb, i),
-        Entry::RhoUb => point.value(Entry::RhoUb, i),
-        Entry::RhoLb => point.value(Entry::RhoLb, i),
-        Entry::Epigraph => point.value(Entry::Epigraph, i),
-        Entry::SegmentDual => point.value(Entry::SegmentDual, i),
-        Entry::LinearDual => point.value(Entry::LinearDual, i),
-        Entry::LinearValue => point.value(Entry::LinearValue, i),
-        Entry::Objective => point.value(Entry::Objective, i),
+        Entry::Va
+        | Entry::Pg
+        | Entry::Flow
+        | Entry::NuBal
+        | Entry::LamUb
+        | Entry::LamLb
+        | Entry::RhoUb
+        | Entry::RhoLb
+        | Entry::Epigraph
+        | Entry::SegmentDual
+        | Entry::LinearDual
+        | Entry::LinearValue
+        | Entry::Objective => point.value(e, i),
     }
 }

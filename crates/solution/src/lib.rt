@@ -3,10 +3,11 @@
 
 ghost use Rattle.std.specs.Prelude.{◌≡◌, ◌+◌, ◌≤◌, ◌<◌, cond, eqb};
 ghost use Rattle.network.specs.Layout.{Few, WiringLaid};
+ghost use Rattle.network.specs.Numbers.{Termed};
 ghost use Rattle.solution.specs.Sheet.{pieces, size, entry_start, solved, SheetLaid};
 
 use network::layout::word;
-use network::{Counts, Grid, Part};
+use network::{Counts, Grid, Part, Site};
 
 // The sheet's entries, in the paper's order.
 #[derive(Clone, Copy, PartialEq, Eq, Debug)]
@@ -29,6 +30,30 @@ pub enum Entry {
     LinearDual,
     LinearValue,
     Objective,
+}
+
+impl Entry {
+    // Every entry, in the sheet's order.
+    pub const ALL: &'static [Entry] = &[
+        Entry::Va,
+        Entry::Pg,
+        Entry::Flow,
+        Entry::Psh,
+        Entry::NuBal,
+        Entry::LamUb,
+        Entry::LamLb,
+        Entry::RhoUb,
+        Entry::RhoLb,
+        Entry::MuUb,
+        Entry::MuLb,
+        Entry::GammaUb,
+        Entry::GammaLb,
+        Entry::Epigraph,
+        Entry::SegmentDual,
+        Entry::LinearDual,
+        Entry::LinearValue,
+        Entry::Objective,
+    ];
 }
 
 // One more, for a piecewise generator.
@@ -103,7 +128,8 @@ pub fn entry_start(c: Counts, p: usize, e: Entry) -> usize
 }
 
 // Word i of an entry.
-// It asks for the sheet alone: an operating point would ask for a grid too.
+// It asks for the sheet alone: an operating point would ask for a grid too, and a struct of sheet, counts and pieces would be
+// made of a point's fields for each call.
 pub fn solved_at(sheet: &[f64], c: Counts, p: usize, e: Entry, i: usize) -> f64
     requires sheet_laid { SheetLaid c p sheet.now }
     requires i_bound { i < size c p e }
@@ -120,6 +146,23 @@ pub struct OperatingPoint<'a> {
     pub pieces: usize,
     pub sheet: &'a [f64],
     pub ghost sheet_laid: { SheetLaid grid.plan.counts pieces sheet.now },
+}
+
+// An operating point with the terms of its linear rows.
+#[derive(Clone, Copy)]
+pub struct PointSite<'a> {
+    pub point: OperatingPoint<'a>,
+    pub term_index: &'a [u32],
+    pub term_coefficient: &'a [f64],
+    pub ghost termed: { Termed point.grid.plan.counts point.grid.plan.wiring.now term_index.now term_coefficient.now },
+}
+
+// A network with a solution sheet that is as long as the network says.
+#[derive(Clone, Copy)]
+pub struct SolvedSite<'a> {
+    pub site: Site<'a>,
+    pub sheet: &'a [f64],
+    pub ghost sheet_laid: { SheetLaid site.grid.plan.counts (pieces site.grid.plan.counts site.grid.plan.wiring.now) sheet.now },
 }
 
 impl OperatingPoint<'_> {

@@ -13,9 +13,9 @@ ghost use Rattle.solution_check.specs.Tests.{solution_long, looked_at, solution_
 use float64::sheet_limit;
 use network::check::all_within;
 use network::layout::counts;
-use network::{Counts, Lent, Site};
+use network::{Counts, Lent};
 use sequence::Refusal;
-use solution::piece_count;
+use solution::{SolvedSite, piece_count};
 
 // 5n + 3k + 5m + p + S + 2q + 1.
 pub fn sheet_length(c: Counts, p: usize) -> usize
@@ -27,6 +27,7 @@ pub fn sheet_length(c: Counts, p: usize) -> usize
 }
 
 // Whether the sheet is as long as it should be; on a network whose own sizes don't hold any answer will do.
+// The network's sizes are tested here and again in `accept_with`, which takes this answer before it reads the counts.
 fn sheet_is_long(lent: Lent<'_>, solution: &[f64]) -> bool
     ensures { sizes_hold (network_in lent.entry) ≡ true → result ≡ solution_long (network_in lent.entry) solution.now }
 {
@@ -42,28 +43,33 @@ fn sheet_holds(solution: &[f64], c: Counts, whole: bool) -> bool
     requires { c.rows < length solution.now }
     ensures { result ≡ all_within sheet_limit (take (looked_at whole c solution.now) solution.now) }
 {
-    let limit = sheet_limit();
-    if whole {
-        return all_within(solution, limit);
-    }
-    let to = solution.len() - (c.rows + 1);
-    all_within(&solution[0..to], limit)
+    let looked_at = if whole {
+        solution
+    } else {
+        &solution[..solution.len() - (c.rows + 1)]
+    };
+    all_within(looked_at, sheet_limit())
 }
 
 // A network with its solution sheet, where none of the numbers 1 to 3 is due to either.
 pub fn accept_solution<'a>(
     lent: Lent<'a>,
-    solution: &[f64],
+    solution: &'a [f64],
     whole: bool,
-) -> Result<Site<'a>, Refusal>
+) -> Result<SolvedSite<'a>, Refusal>
     ensures number { number_of result ≡ first_of (solution_tests whole (network_in lent.entry) solution.now) }
-    ensures accepted { IfOk result (SiteOf lent.entry) }
-    ensures solved { IfOk result (λ site. Solved (network_in lent.entry) solution.now site.grid.plan.counts) }
+    ensures accepted { IfOk result (λ solved. SiteOf lent.entry solved.site) }
+    ensures lent_sheet { IfOk result (λ solved. solved.sheet.now ≡ solution.now) }
+    ensures solved { IfOk result (λ solved. Solved (network_in lent.entry) solution.now solved.site.grid.plan.counts) }
 {
     let sizes = sheet_is_long(lent, solution);
     let site = lent.accept_with(sizes, true)?;
+    let solved = SolvedSite {
+        site,
+        sheet: solution,
+    };
     if sheet_holds(solution, site.grid.plan.counts, whole) {
-        Ok(site)
+        Ok(solved)
     } else {
         Err(Refusal::Reading)
     }

@@ -1,9 +1,9 @@
--- The laws of branches by bus: how their ends are linked, and that a walk along bus i's chain makes row i of the susceptance matrix.
--- Main results: `ends_turn`, `sum_at`, `mark_at_lem`, `end_taken`, `row_begin`, `row_more`, `row_done`, `row_is`. Assumes nothing.
+-- The laws of branches by bus: where their ends are, and that a walk along bus i's chain makes row i of the susceptance matrix.
+-- Main results: `end_bound`, `sum_at`, `mark_at_lem`, `end_taken`, `row_begin`, `row_more`, `row_done`, `row_is`. Assumes nothing.
 use mathlib.Core.Path.{◌≡◌, refl, sym, ap, ◌∙◌}
 use mathlib.Core.Bool.{Bool, true, false, cond, not, ◌&&◌, ◌||◌, and-true, and-false, or-true}
-use mathlib.Core.List.{List, []}
-use Prim.Native.Nat.{ℕ, zero, suc, ◌+◌, ◌-◌, ◌*◌, ◌/◌, ◌%◌, ◌≤◌, ◌<◌, min}
+use mathlib.Core.List.{List}
+use Prim.Native.Nat.{ℕ, zero, suc, ◌+◌, ◌*◌, ◌/◌, ◌%◌, ◌≤◌, ◌<◌}
 use native.Mathlib.Omega.{arith}
 use lib.ListN.{length, get_or, set, length-set}
 use lib.Seq.{get_or-set_other}
@@ -12,20 +12,15 @@ use lib.Ieee.{Float, nan, eq}
 use borrow.Author.Tests.{eq-eqb, ne_eqb}
 use Rattle.float64.specs.Values.{nought, add_at, sub_at}
 use Rattle.sequence.specs.Lists.{each, turns, some}
-use Rattle.sequence.specs.Links.{First, Links}
-use Rattle.sequence.specs.declared.Sink.{Sink}
-use Rattle.sequence.specs.Sheets.{emit}
-use Rattle.sequence.specs.Sinks.{Gains}
-use Rattle.sequence.proofs.Lists.{each_same, each_skip, each_add, turns_more, turns_same, turns_skip, turns_pairs, stored_at}
-use Rattle.sequence.proofs.Links.{links_more}
+use Rattle.sequence.specs.Links.{First}
+use Rattle.sequence.proofs.Lists.{each_same, turns_more, turns_same, turns_skip, turns_pairs, stored_at}
 use Rattle.sequence.proofs.Sheets.{emit_item}
-use Rattle.sequence.proofs.Sinks.{then}
 use Rattle.network.specs.declared.Counts.{Counts}
 use Rattle.network.specs.declared.Part.TheVariants.{BrFrom, BrTo}
 use Rattle.network.specs.Layout.{wire}
 use Rattle.network.specs.Numbers.{Wired}
 use Rattle.susceptance.specs.Susceptance.{weight, is_cell, cell_turn, susceptance, touches, touched, susceptance_cell, susceptance_row}
-use Rattle.susceptance.specs.Incidence.{end_at, takes, end_turn, walk_turn, cell_sum, cell_mark, sum_turn, mark_turn, mark_at, Covers, marked, Stepped, EndStepped, RowBlank, RowAt, RowHeld, cell_at, span_at}
+use Rattle.susceptance.specs.Incidence.{end_at, takes, end_turn, walk_turn, cell_sum, cell_mark, sum_turn, mark_turn, mark_at, Covers, marked, Stepped, EndStepped, RowBlank, RowAt, RowHeld, cell_at}
 
 -- ---- the ends
 
@@ -43,24 +38,14 @@ end_odd c w e =
     let q : (2 * e + 1) / 2 ≡ e = omega arith in
     rw (p, q)
 
--- a turn of the loop that links the ends
-pub ends_turn : {c : Counts} {w : List ℕ} (e a z : ℕ) {head next h₁ n₁ h₂ n₂ : List ℕ} → Wired c w → c.buses ≤ length head → 2 * c.branches ≤ length next → 0 < e → e ≤ c.branches
-    → a ≡ wire c w BrTo (e - 1) → z ≡ wire c w BrFrom (e - 1)
-    → Links (end_at c w) c.buses (2 * c.branches) (2 * e) head next
-    → h₁ ≡ set head a (2 * (e - 1) + 1) → n₁ ≡ set next (2 * (e - 1) + 1) (get_or head a 0)
-    → h₂ ≡ set h₁ z (2 * (e - 1)) → n₂ ≡ set n₁ (2 * (e - 1)) (get_or h₁ z 0)
-    → Links (end_at c w) c.buses (2 * c.branches) (2 * (e - 1)) h₂ n₂
-ends_turn {c} {w} e a z {head} {next} {h₁} {n₁} y ph pn p q ea ez l e₁ f₁ e₂ f₂ =
-    let s : 2 * (e - 1) + 1 + 1 ≡ 2 * e = omega arith in
-    let ka : end_at c w (2 * (e - 1) + 1) ≡ a = end_odd c w (e - 1) ∙ sym ea in
-    let kz : end_at c w (2 * (e - 1)) ≡ z = end_even c w (e - 1) ∙ sym ez in
-    let ba : end_at c w (2 * (e - 1) + 1) < c.buses = rw (end_odd c w (e - 1)) (y.tos (e - 1) (omega arith)) in
-    let bz : end_at c w (2 * (e - 1)) < c.buses = rw (end_even c w (e - 1)) (y.froms (e - 1) (omega arith)) in
-    let lh : length h₁ ≡ length head = rw e₁ (length-set head a (2 * (e - 1) + 1)) in
-    let ln : length n₁ ≡ length next = rw f₁ (length-set next (2 * (e - 1) + 1) (get_or head a 0)) in
-    let l₁ : Links (end_at c w) c.buses (2 * c.branches) (2 * (e - 1) + 1) h₁ n₁ =
-    rw (e₁, f₁, ← ka) (links_more {head = head} {next = next} ba ph (omega arith) (omega arith) (rw s l)) in
-    rw (e₂, f₂, ← kz) (links_more {head = h₁} {next = n₁} bz (omega arith) (omega arith) (omega arith) l₁)
+-- each is at a bus
+pub end_bound : (c : Counts) (w : List ℕ) → Wired c w → (x : ℕ) → x < 2 * c.branches → end_at c w x < c.buses
+unfolding end_at
+end_bound c w y x h = go (eqb (x % 2) 0)
+  where
+    go : (b : Bool) → cond b (wire c w BrFrom (x / 2)) (wire c w BrTo (x / 2)) < c.buses
+    go true = y.froms (x / 2) (omega arith)
+    go false = y.tos (x / 2) (omega arith)
 
 -- bus i is at one of the ends of its chain's branches
 pub end_of : (c : Counts) (w : List ℕ) (i x : ℕ) {p q : ℕ} → end_at c w x ≡ i → p ≡ wire c w BrFrom (x / 2) → q ≡ wire c w BrTo (x / 2) → eqb i p || eqb i q ≡ true
@@ -253,19 +238,3 @@ module _ (c : Counts) (w : List ℕ) (r : List Float) (i : ℕ) where
       kept : (b : Bool) → not (eqb (cond b 1 0) 0) ≡ b
       kept true = refl
       kept false = refl
-
--- ---- the row's cells, by blocks of 16 columns
-
-pub span_none : (acc : List Float) (hit : List ℕ) (i a b : ℕ) → ((j : ℕ) → j < b → mark_at hit (a + j) ≡ 0) → span_at acc hit i a b ≡ []
-unfolding span_at cell_at emit each
-span_none acc hit i a b h = each_skip _ 0 b (omega arith) (λ j p q. rw (h j q))
-
--- one block more
-pub block_more : {S₀ S₁ S₂ : Sink} (acc : List Float) (hit : List ℕ) (i n q b : ℕ) → 16 * q ≤ n → b ≡ min (n - 16 * q) 16
-    → Gains (each (min (16 * q) n) (cell_at acc hit i)) S₀ S₁ → Gains (span_at acc hit i (16 * q) b) S₁ S₂
-    → Gains (each (min (16 * (q + 1)) n) (cell_at acc hit i)) S₀ S₂
-unfolding span_at
-block_more acc hit i n q b h e p s =
-    let a : min (16 * q) n ≡ 16 * q = omega arith in
-    let z : min (16 * (q + 1)) n ≡ 16 * q + b = omega arith in
-    rw (z, each_add) (then (rw a at p) s)

@@ -1,4 +1,3 @@
 -- The laws that proofs cite, here and in the crates above. Assumes nothing.
 pub mod Incidence
 pub mod Bound
-pub mod Fills

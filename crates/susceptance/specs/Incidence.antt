@@ -3,7 +3,7 @@
 use Rattle.std.specs.Prelude.{ℕ, ◌+◌, ◌*◌, ◌/◌, ◌%◌, ◌≤◌, ◌<◌, ◌≡◌, Bool, cond, not, ◌||◌, List, length, get_or, set, eqb, Float}
 use Rattle.std.specs.Float.{nan}
 use Rattle.float64.specs.Values.{nought, add_at, sub_at}
-use Rattle.sequence.specs.Lists.{each, turns}
+use Rattle.sequence.specs.Lists.{turns}
 use Rattle.sequence.specs.Links.{Links}
 use Rattle.sequence.specs.declared.Triplet.{Triplet}
 use Rattle.sequence.specs.Sheets.{item, emit}
@@ -98,6 +98,3 @@ pub record RowHeld (c : Counts) (w : List ℕ) (r : List Float) (i : ℕ) (acc :
 -- cell j of row i, of its sum and its mark
 unfoldable pub cell_at : List Float → List ℕ → ℕ → ℕ → List Triplet
 cell_at acc hit i j = emit (item (not (eqb (mark_at hit j) 0)) i j (get_or acc j nan))
-
-unfoldable pub span_at : List Float → List ℕ → ℕ → ℕ → ℕ → List Triplet
-span_at acc hit i a b = each b (λ j. cell_at acc hit i (a + j))

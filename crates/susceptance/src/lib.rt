@@ -1,23 +1,34 @@
 // The susceptance matrix as triplets, by row, then column.
 #![tactic(auto)]
 
-ghost use Rattle.std.specs.Prelude.{◌≡◌, true, false, not, ◌||◌, ℕ, ◌+◌, ◌*◌, ◌<◌, ◌≤◌, length, get_or, eqb};
+ghost use Rattle.std.specs.Prelude.{◌≡◌, true, not, ◌||◌, ℕ, ◌+◌, ◌*◌, ◌<◌, ◌≤◌, length, get_or, eqb};
 ghost use Rattle.std.specs.Float.{nan};
 ghost use Rattle.float64.specs.Values.{add_at, sub_at};
-ghost use Rattle.sequence.specs.Lists.{each};
 ghost use Rattle.sequence.specs.Links.{Links};
 ghost use Rattle.sequence.specs.Sheets.{item};
 ghost use Rattle.sequence.specs.Sinks.{Gains};
 ghost use Rattle.network.specs.Numbers.{Wired};
 ghost use Rattle.susceptance.specs.Susceptance.{weight, cell_turn, susceptance_row, susceptance_coo};
-ghost use Rattle.susceptance.specs.Incidence.{end_at, takes, cell_sum, cell_mark, mark_at, Covers, marked, RowRoom, Stepped, EndStepped, RowBlank, RowHeld, cell_at, span_at};
+ghost use Rattle.susceptance.specs.Incidence.{end_at, takes, cell_sum, cell_mark, mark_at, marked, RowRoom, Stepped, EndStepped, RowBlank, RowHeld};
 
 pub mod ends;
 
-pub use ends::Ends;
+pub use ends::{Ends, branch_of, is_from};
 use network::layout::{wide, word};
 use network::{Counts, Field, Grid, Part, Plan};
-use sequence::{Sink, Triplet, push};
+use sequence::linking::link;
+use sequence::marking::put_marked;
+use sequence::{Sink, Triplet};
+
+// The bus of end x.
+fn end_at(wiring: &[u32], c: Counts, x: usize) -> usize
+    requires wired { Wired c wiring.now }
+    requires x_bound { x < 2 * c.branches }
+    ensures { result ≡ end_at c wiring.now x }
+{
+    let part = if is_from(x) { Part::BrFrom } else { Part::BrTo };
+    word(wiring, c, part, branch_of(x))
+}
 
 // The chains of the branches' ends, by bus.
 // It asks for the wiring alone (a grid asks for more, a `Wiring` would be made for it), and writes `head` and `next`.
@@ -26,12 +37,13 @@ pub fn link_ends(wiring: &[u32], c: Counts, head: &mut [u32], next: &mut [u32])
     requires buses_in_bounds { (c.buses ≤ length head.old) × (2 * c.branches ≤ length next.old) }
     ensures { Links (end_at c wiring.now) c.buses (2 * c.branches) 0 head.new next.new }
 {
-    let m = c.branches;
-    head[..c.buses].fill((2 * m) as u32);
-    for e in (0..m).rev() {
-        push(head, next, word(wiring, c, Part::BrTo, e), 2 * e + 1);
-        push(head, next, word(wiring, c, Part::BrFrom, e), 2 * e);
-    }
+    link(
+        c.buses,
+        2 * c.branches,
+        |x| end_at(wiring, c, x),
+        head,
+        next,
+    );
 }
 
 // Minus the susceptance times the switch.
@@ -96,10 +108,7 @@ fn step(n: usize, i: usize, p: usize, q: usize, x: f64, acc: &mut [f64], hit: &m
 fn takes(i: usize, x: usize, p: usize) -> bool
     ensures { result ≡ takes i x p }
 {
-    if x % 2 == 0 {
-        return true;
-    }
-    i != p
+    is_from(x) || i != p
 }
 
 // End x of bus i's chain, into row i.
@@ -108,7 +117,7 @@ fn end_step(grid: &Grid<'_>, i: usize, x: usize, acc: &mut [f64], hit: &mut [u32
     requires x_bound { (x < 2 * grid.now.plan.counts.branches) × (end_at grid.now.plan.counts grid.now.plan.wiring.now x ≡ i) }
     ensures { EndStepped grid.now.plan.counts grid.now.plan.wiring.now grid.now.plan.readings.now i x acc.old hit.old acc.new hit.new }
 {
-    let e = x / 2;
+    let e = branch_of(x);
     let p = grid.word(Part::BrFrom, e);
     if !takes(i, x, p) {
         return;
@@ -133,6 +142,7 @@ fn walk(ends: &Ends<'_>, i: usize, acc: &mut [f64], hit: &mut [u32])
     ensures { RowHeld ends.now.grid.plan.counts ends.now.grid.plan.wiring.now ends.now.grid.plan.readings.now i acc.new hit.new }
 {
     let count = 2 * ends.grid.plan.counts.branches;
+    // Along the links, which no range counts.
     let mut x = wide(ends.head[i]);
     while x < count {
         end_step(&ends.grid, i, x, acc, hit);
@@ -152,7 +162,7 @@ pub fn make_row(ends: &Ends<'_>, i: usize, acc: &mut [f64], hit: &mut [u32])
 }
 
 // Column j of row i, kept where it is marked.
-// `acc` and `hit` are only read here and in the next two, and stay single as where they are written.
+// `acc` and `hit` are only read here, and stay single as where they are written.
 fn cell(acc: &[f64], hit: &[u32], i: usize, j: usize) -> Option<Triplet>
     requires { (j < length acc.now) × (16 + j < length hit.now) × (i < 256) × (j < 256) }
     ensures { result ≡ item (not (eqb (mark_at hit.now j) 0)) i j (get_or acc.now j nan) }
@@ -167,37 +177,6 @@ fn cell(acc: &[f64], hit: &[u32], i: usize, j: usize) -> Option<Triplet>
     })
 }
 
-// Columns a to a + b - 1 of row i, of which none is marked where they are not on.
-fn put_span(on: bool, acc: &[f64], hit: &[u32], i: usize, a: usize, b: usize, sink: &mut Sink<'_>)
-    requires row_room { RowRoom (a + b) acc.now hit.now }
-    requires i_bound { (i < 256) × (sink.old.count < 0x1000_0000) }
-    requires j_value { on ≡ false → (j : ℕ) → j < b → mark_at hit.now (a + j) ≡ 0 }
-    ensures puts { Gains (span_at acc.now hit.now i a b) sink.old sink.new }
-    ensures most { sink.new.count ≤ sink.old.count + b }
-{
-    if !on {
-        return;
-    }
-    for j in 0..b {
-        sink.put(cell(acc, hit, i, a + j));
-    }
-}
-
-// Row i, by blocks of 16 columns: a block that is not marked is passed over.
-fn put_cells(n: usize, acc: &[f64], hit: &[u32], i: usize, sink: &mut Sink<'_>)
-    requires row_room { RowRoom n acc.now hit.now }
-    requires i_bound { (i < 256) × (sink.old.count < 0x800_0000) }
-    requires covers { Covers n hit.now }
-    ensures puts { Gains (each n (cell_at acc.now hit.now i)) sink.old sink.new }
-    ensures most { sink.new.count ≤ sink.old.count + n }
-{
-    let blocks = (n + 15) / 16;
-    for q in 0..blocks {
-        let a = 16 * q;
-        put_span(hit[q] != 0, acc, hit, i, a, (n - a).min(16), sink);
-    }
-}
-
 // Row i, into the sheets. Of its two calls only the first is kkt_cells' too.
 fn put_row(ends: &Ends<'_>, i: usize, acc: &mut [f64], hit: &mut [u32], sink: &mut Sink<'_>)
     requires row_room { RowRoom ends.now.grid.plan.counts.buses acc.old hit.old }
@@ -206,7 +185,12 @@ fn put_row(ends: &Ends<'_>, i: usize, acc: &mut [f64], hit: &mut [u32], sink: &m
     ensures most { sink.new.count ≤ sink.old.count + 256 }
 {
     make_row(ends, i, acc, hit);
-    put_cells(ends.grid.plan.counts.buses, acc, hit, i, sink);
+    put_marked(
+        ends.grid.plan.counts.buses,
+        hit,
+        |j| cell(acc, hit, i, j),
+        sink,
+    );
 }
 
 // The susceptance list into three sheets, below a limit: counted always, stored below it.

@@ -5,15 +5,35 @@ ghost use Rattle.std.specs.Prelude.{◌≡◌, ◌≤◌, length};
 ghost use Rattle.sequence.specs.Answers.{answered};
 ghost use Rattle.model.specs.Calls.{evaluate_call};
 ghost use Rattle.terms.specs.Terms.{Apart, network_of, array_call};
+ghost use Rattle.terms.specs.Records.{term_at, twelve};
 
 use model::dc;
 use network::Lent;
 use sequence::{Answer, Refusal};
+use words::{FromBytes, number, word32, word64};
 
 #[derive(Clone, Copy)]
 pub struct Term {
     pub index: u32,
     pub coefficient: f64,
+}
+
+// A record of twelve bytes: the index and then the coefficient.
+impl FromBytes for Term {
+    const SIZE: usize = 12;
+
+    ghost SIZE = { 12 };
+
+    ghost nth = { term_at };
+
+    ghost some = { twelve };
+
+    fn get(b: &[u8], i: usize) -> Term {
+        Term {
+            index: word32(b, 12 * i),
+            coefficient: number(word64(b, 12 * i + 4)),
+        }
+    }
 }
 
 // The terms' indexes and coefficients, in the fronts of two arrays.
@@ -32,9 +52,9 @@ fn take_apart(terms: &[Term]) -> Columns
         indexes: [0; 1024],
         coefficients: [0.0; 1024],
     };
-    for i in 0..terms.len() {
-        columns.indexes[i] = terms[i].index;
-        columns.coefficients[i] = terms[i].coefficient;
+    for (i, term) in terms.iter().enumerate() {
+        columns.indexes[i] = term.index;
+        columns.coefficients[i] = term.coefficient;
     }
     columns
 }

@@ -11,6 +11,7 @@ use Rattle.sequence.specs.Lists.{made, front}
 use Rattle.sequence.proofs.Lists.{made_length}
 use Rattle.sequence.proofs.Fronts.{front_more}
 use Rattle.words.specs.Words.{bytes_of, joined, double_bytes}
+use Rattle.words.specs.Sizes.{pattern_bytes_length}
 
 -- ---- the bytes of each element
 
@@ -44,13 +45,9 @@ module _ {A : Type 0} where
       let z : length (joined g (made f i)) ≡ k * i = joined_length g k w (made f i) ∙ ap (λ (j : ℕ). k * j) (made_length f i) in
       rw (s, e, add-one, joined_append, append-nil) (front_more (joined g (made f i)) (g (f i)) old (k * i) z (rw w l))
 
-pub bytes_length : (k v : ℕ) → length (bytes_of k v) ≡ k
-bytes_length zero v = refl
-bytes_length (suc k) v = ap suc (bytes_length k (v / 256))
-
 -- eight bytes a double
 pub double_bytes-length : (xs : List Float) → length (double_bytes xs) ≡ 8 * length xs
-double_bytes-length xs = joined_length _ 8 (λ x. bytes_length 8 (to_bits binary64 x)) xs
+double_bytes-length xs = joined_length _ 8 pattern_bytes_length xs
 
 -- the bytes of v from i on are one byte, and those from i + 1 on
 pub bytes_more : (o : List ℕ) (at k i v : ℕ) → i < k → sets o (at + i) (bytes_of (k - i) v) ≡ sets (set o (at + i) (v % 256)) (at + (i + 1)) (bytes_of (k - (i + 1)) (v / 256))

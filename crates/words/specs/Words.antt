@@ -42,6 +42,9 @@ joined g (x ∷ xs) = g x ++ joined g xs
 abbrev pub word_bytes : List ℕ → List ℕ
 word_bytes ws = joined (bytes_of 4) ws
 
--- each double's pattern; a NaN's is the one with the sign clear and only the highest of the digits set
+-- a double's pattern; a NaN's is the one with the sign clear and only the highest of the digits set
+abbrev pub pattern_bytes : Float → List ℕ
+pattern_bytes x = bytes_of 8 (to_bits binary64 x)
+
 abbrev pub double_bytes : List Float → List ℕ
-double_bytes xs = joined (λ (x : Float). bytes_of 8 (to_bits binary64 x)) xs
+double_bytes xs = joined pattern_bytes xs

@@ -1,12 +1,13 @@
 // Words and doubles in bytes, the lowest byte first, and back.
 #![tactic(auto)]
 
-ghost use Rattle.std.specs.Prelude.{◌≡◌, ◌+◌, ◌*◌, ◌≤◌, ◌<◌, length, take};
+ghost use Rattle.std.specs.Prelude.{◌≡◌, ℕ, ◌+◌, ◌*◌, ◌≤◌, ◌<◌, List, length};
 ghost use Rattle.std.proofs.lemmas.List.Edits.{sets};
 ghost use Rattle.std.specs.Float.{binary64};
 ghost use Rattle.std.specs.Float.Ieee.{of_bits, to_bits};
 ghost use Rattle.sequence.specs.Lists.{made, front};
-ghost use Rattle.words.specs.Words.{at32, at64, word_at, double_at, bytes_of, word_bytes, double_bytes};
+ghost use Rattle.words.specs.Words.{at32, at64, word_at, double_at, bytes_of, pattern_bytes, joined};
+ghost use Rattle.words.specs.Sizes.{four, eight, bytes_of_length, pattern_bytes_length};
 
 // The word of four bytes.
 pub fn word32(b: &[u8], at: usize) -> u32
@@ -55,60 +56,111 @@ pub fn pattern(x: f64) -> u64
     }
 }
 
-// The first n words.
-pub fn decode_words(bytes: &[u8], n: usize, into: &mut [u32])
-    requires { (4 * n ≤ length bytes.now) × (n ≤ length into.old) }
-    ensures into_after { into.new ≡ front (made (word_at bytes.now) n) into.old }
-    ensures kept { length into.new ≡ length into.old }
-{
-    // Each word is made of its index: four bytes stand at 4 i.
-    for i in 0..n {
-        into[i] = word32(bytes, 4 * i);
-    }
-}
-
-// The first n doubles.
-pub fn decode_doubles(bytes: &[u8], n: usize, into: &mut [f64])
-    requires { (8 * n ≤ length bytes.now) × (n ≤ length into.old) }
-    ensures into_after { into.new ≡ front (made (double_at bytes.now) n) into.old }
-    ensures kept { length into.new ≡ length into.old }
-{
-    // Each double is made of its index: eight bytes stand at 8 i.
-    for i in 0..n {
-        into[i] = number(word64(bytes, 8 * i));
-    }
-}
-
 // The k lowest bytes of a number, from a place on.
 pub fn put(out: &mut [u8], at: usize, k: usize, v: u64)
     requires { at + k ≤ length out.old }
     ensures { out.new ≡ sets out.old at (bytes_of k v) }
 {
     let mut rest = v;
+    // By an index: the invariant names by it the bytes that are still to be stored.
     for i in 0..k {
         out[at + i] = (rest % 256) as u8;
         rest /= 256;
     }
 }
 
-// The bytes of the first n words.
-pub fn encode_words(from: &[u32], n: usize, out: &mut [u8])
-    requires { (n ≤ length from.now) × (4 * n ≤ length out.old) }
-    ensures out_after { out.new ≡ front (word_bytes (take n from.now)) out.old }
-    ensures kept { length out.new ≡ length out.old }
-{
-    for i in 0..n {
-        put(out, 4 * i, 4, u64::from(from[i]));
+// Items that stand one after the other in bytes.
+pub trait FromBytes: Copy {
+    const SIZE: usize;
+
+    ghost SIZE: { ℕ };
+
+    // The item at an index.
+    ghost nth: { List ℕ → ℕ → Self };
+
+    fn get(b: &[u8], i: usize) -> Self
+        requires { SIZE * (i + 1) ≤ length b.now }
+        ensures { result ≡ nth b.now i };
+
+    ghost some: { 0 < SIZE };
+}
+
+pub trait ToBytes: FromBytes {
+    ghost bytes: { Self → List ℕ };
+
+    // Its bytes at an index.
+    fn put(self, out: &mut [u8], i: usize)
+        requires { Self.SIZE * (i + 1) ≤ length out.old }
+        ensures { out.new ≡ sets out.old (Self.SIZE * i) (bytes self) };
+
+    ghost sized: { (x : Self) → length (bytes x) ≡ Self.SIZE };
+}
+
+impl FromBytes for u32 {
+    const SIZE: usize = 4;
+
+    ghost SIZE = { 4 };
+
+    ghost nth = { word_at };
+
+    ghost some = { four };
+
+    fn get(b: &[u8], i: usize) -> u32 {
+        word32(b, 4 * i)
     }
 }
 
-// The bytes of the first n doubles' patterns.
-pub fn encode_doubles(from: &[f64], n: usize, out: &mut [u8])
-    requires { (n ≤ length from.now) × (8 * n ≤ length out.old) }
-    ensures out_after { out.new ≡ front (double_bytes (take n from.now)) out.old }
+impl ToBytes for u32 {
+    ghost bytes = { bytes_of 4 };
+
+    ghost sized = { bytes_of_length 4 };
+
+    fn put(self, out: &mut [u8], i: usize) {
+        out[4 * i..4 * i + 4].copy_from_slice(&self.to_le_bytes());
+    }
+}
+
+impl FromBytes for f64 {
+    const SIZE: usize = 8;
+
+    ghost SIZE = { 8 };
+
+    ghost nth = { double_at };
+
+    ghost some = { eight };
+
+    fn get(b: &[u8], i: usize) -> f64 {
+        number(word64(b, 8 * i))
+    }
+}
+
+impl ToBytes for f64 {
+    ghost bytes = { pattern_bytes };
+
+    ghost sized = { pattern_bytes_length };
+
+    fn put(self, out: &mut [u8], i: usize) {
+        out[8 * i..8 * i + 8].copy_from_slice(&pattern(self).to_le_bytes());
+    }
+}
+
+// Every item of a slice, from the bytes. By an index, since after a `zip` nothing is known of what was written through it.
+pub fn decode<T: FromBytes>(bytes: &[u8], into: &mut [T])
+    requires { T.SIZE * length into.old ≤ length bytes.now }
+    ensures { into.new ≡ made (T.nth bytes.now) (length into.old) }
+{
+    for (i, x) in into.iter_mut().enumerate() {
+        *x = T::get(bytes, i);
+    }
+}
+
+// The bytes of a slice's items.
+pub fn encode<T: ToBytes>(from: &[T], out: &mut [u8])
+    requires { T.FromBytes.SIZE * length from.now ≤ length out.old }
+    ensures out_after { out.new ≡ front (joined T.bytes from.now) out.old }
     ensures kept { length out.new ≡ length out.old }
 {
-    for i in 0..n {
-        put(out, 8 * i, 8, pattern(from[i]));
+    for (i, x) in from.iter().enumerate() {
+        x.put(out, i);
     }
 }

@@ -16,54 +16,24 @@ pub returns-in_default : goal.returns-in_default
 returns-in_default c = let a = c.args in
     rw c.pack.ensures (element_one _ _ _ _ _ _ (doubles_of a.sheet.now) _ _ (unsized_network _ _ a.f.now a.pg.now (no_wiring a.wiring.now a.readings.now a.terms.now c.in_default.ensures.fits)))
 
-pub returns-in_default-take_doubles : goal.returns-in_default-take_doubles
-returns-in_default-take_doubles c = let a = c.args in
-    rw c.pack-in_default-take_doubles.ensures (element_one _ _ _ _ _ _ (doubles_of a.sheet.now) _ _ (unsized_network _ _ a.f.now a.pg.now (no_readings a.wiring.now a.readings.now a.terms.now c.in_default-take_doubles.ensures.fits)))
+pub returns-in_default-take : goal.returns-in_default-take
+returns-in_default-take c = let a = c.args in
+    rw c.pack-in_default-take.ensures (element_one _ _ _ _ _ _ (doubles_of a.sheet.now) _ _ (unsized_network _ _ a.f.now a.pg.now (no_readings a.wiring.now a.readings.now a.terms.now c.in_default-take.ensures.fits)))
 
-pub returns-in_default-take_terms : goal.returns-in_default-take_terms
-returns-in_default-take_terms c = let a = c.args in
-    rw c.pack-in_default-take_terms.ensures (element_one _ _ _ _ _ _ (doubles_of a.sheet.now) _ _ (unsized_network _ _ a.f.now a.pg.now (no_terms a.wiring.now a.readings.now a.terms.now c.in_default-take_terms.ensures.fits)))
+pub returns-in_default-take-2 : goal.returns-in_default-take-2
+returns-in_default-take-2 c = let a = c.args in
+    rw c.pack-in_default-take-2.ensures (element_one _ _ _ _ _ _ (doubles_of a.sheet.now) _ _ (unsized_network _ _ a.f.now a.pg.now (no_terms a.wiring.now a.readings.now a.terms.now c.in_default-take-2.ensures.fits)))
 
-pub returns-in_default-take_doubles-2 : goal.returns-in_default-take_doubles-2
-returns-in_default-take_doubles-2 c = let a = c.args in
-    rw c.pack-in_default-take_doubles-2.ensures (element_one _ _ _ _ _ _ (doubles_of a.sheet.now) _ _ (unsized_flows _ _ a.f.now a.pg.now c.in_default-take_doubles-2.ensures.fits))
+pub returns-in_default-take-3 : goal.returns-in_default-take-3
+returns-in_default-take-3 c = let a = c.args in
+    rw c.pack-in_default-take-3.ensures (element_one _ _ _ _ _ _ (doubles_of a.sheet.now) _ _ (unsized_flows _ _ a.f.now a.pg.now c.in_default-take-3.ensures.fits))
 
-pub returns-in_default-take_doubles-3 : goal.returns-in_default-take_doubles-3
-returns-in_default-take_doubles-3 c = let a = c.args in
-    rw c.pack-in_default-take_doubles-3.ensures (element_one _ _ _ _ _ _ (doubles_of a.sheet.now) _ _ (unsized_powers _ _ a.f.now a.pg.now c.in_default-take_doubles-3.ensures.fits))
-
-pub slice_bounds-w-end : goal.slice_bounds-w-end
-slice_bounds-w-end c = c.in-Some.ensures.held.room
+pub returns-in_default-take-4 : goal.returns-in_default-take-4
+returns-in_default-take-4 c = let a = c.args in
+    rw c.pack-in_default-take-4.ensures (element_one _ _ _ _ _ _ (doubles_of a.sheet.now) _ _ (unsized_powers _ _ a.f.now a.pg.now c.in_default-take-4.ensures.fits))
 
 pub slice_bounds-evaluate_out-end : goal.slice_bounds-evaluate_out-end
-slice_bounds-evaluate_out-end c = cut_count _ _ c.in-Some.ensures.held.room
-
-pub slice_bounds-r-end : goal.slice_bounds-r-end
-slice_bounds-r-end c = c.in-Some-take_doubles.ensures.held.room
-
-pub slice_bounds-evaluate_out-end-2 : goal.slice_bounds-evaluate_out-end-2
-slice_bounds-evaluate_out-end-2 c = cut_count _ _ c.in-Some-take_doubles.ensures.held.room
-
-pub slice_bounds-ts-end : goal.slice_bounds-ts-end
-slice_bounds-ts-end c = c.in-Some-take_terms.ensures.held.room
-
-pub slice_bounds-evaluate_out-end-3 : goal.slice_bounds-evaluate_out-end-3
-slice_bounds-evaluate_out-end-3 c = cut_count _ _ c.in-Some-take_terms.ensures.held.room
-
-pub slice_bounds-fs-end : goal.slice_bounds-fs-end
-slice_bounds-fs-end c = c.in-Some-take_doubles-2.ensures.held.room
-
-pub slice_bounds-evaluate_out-end-4 : goal.slice_bounds-evaluate_out-end-4
-slice_bounds-evaluate_out-end-4 c = cut_count _ _ c.in-Some-take_doubles-2.ensures.held.room
-
-pub slice_bounds-ps-end : goal.slice_bounds-ps-end
-slice_bounds-ps-end c = c.in-Some-take_doubles-3.ensures.held.room
-
-pub slice_bounds-evaluate_out-end-5 : goal.slice_bounds-evaluate_out-end-5
-slice_bounds-evaluate_out-end-5 c = cut_count _ _ c.in-Some-take_doubles-3.ensures.held.room
-
-pub slice_bounds-evaluate_out-end-6 : goal.slice_bounds-evaluate_out-end-6
-slice_bounds-evaluate_out-end-6 c = cut_count _ _ c.cells_for-k.ensures.below
+slice_bounds-evaluate_out-end c = cut_count _ _ c.cells_for-k.ensures.below
 
 pub evaluate_out-requires : goal.evaluate_out-requires
 evaluate_out-requires c = cut_cells _ c.cells_for-k.ensures.below c.cells_for-k.ensures
@@ -71,10 +41,10 @@ evaluate_out-requires c = cut_cells _ c.cells_for-k.ensures.below c.cells_for-k.
 pub returns : goal.returns
 returns c = let a = c.args in
     let w = c.in-Some.ensures in
-    let r = c.in-Some-take_doubles.ensures in
-    let t = c.in-Some-take_terms.ensures in
-    let f = c.in-Some-take_doubles-2.ensures in
-    let p = c.in-Some-take_doubles-3.ensures in
+    let r = c.in-Some-take.ensures in
+    let t = c.in-Some-take-2.ensures in
+    let f = c.in-Some-take-3.ensures in
+    let p = c.in-Some-take-4.ensures in
     let e = wholly (recorded a.wiring a.readings a.terms) _ a.f.now a.pg.now (all_whole a.wiring.now a.readings.now a.terms.now w.fits r.fits t.fits) f.fits p.fits in
     c.evaluate_out.ensures
-    ∙ told_with (λ (b : Bool) (N : Network) (F P : List Float). filled_out b (evaluate_call N a.row F P (doubles_of a.sheet.now)) a.sheet.now) e (same_network w.held.front r.held.front t.held.front) f.held.front p.held.front
+    ∙ told_with (λ (b : Bool) (N : Network) (F P : List Float). filled_out b (evaluate_call N a.row F P (doubles_of a.sheet.now)) a.sheet.now) e (same_network w.held r.held t.held) f.held p.held

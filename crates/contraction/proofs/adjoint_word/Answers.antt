@@ -1,6 +1,7 @@
 -- `contraction::adjoint_word` meets its contract. The loop's invariant: the sum over the first r words. Assumes nothing.
 use mathlib.Core.Path.{◌≡◌, ◌∙◌}
 use native.Mathlib.Omega.{arith}
+use lib.ListN.{length}
 use Rattle.sequence.proofs.Lists.{turns_none, turns_more}
 use Rattle.contraction.specs.Contraction.{gathered, adjoint_word}
 use Rattle.contraction.proofs.adjoint_word.Goals.{then-v, else-v}
@@ -17,5 +18,5 @@ loop-r-preserved c = let l = c.loop-r in
 
 pub returns : goal.returns
 unfolding adjoint_word
-returns c = let e : c.loop-r.r ≡ c.args.dim = omega arith in
+returns c = let e : c.loop-r.r ≡ length c.args.parameter.now = omega arith in
     rw (rw e at c.loop-r.invariant)

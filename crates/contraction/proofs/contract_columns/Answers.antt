@@ -13,8 +13,8 @@ no_words : {A : Type 0} (n : ℕ) (f : ℕ → List A) (out : List A) → n ≡ 
 unfolding front each
 no_words n f out e = rw e
 
-pub returns-then-elements-eq0 : goal.returns-then-elements-eq0
-returns-then-elements-eq0 c = no_words _ _ _ c.if-elements-eq0.true
+pub returns-then-solved-eq0 : goal.returns-then-solved-eq0
+returns-then-solved-eq0 c = no_words _ _ _ c.if-solved-eq0.true
 
 pub loop-c-init : goal.loop-c-init
 loop-c-init c = (rows_none _ _ _ _, refl)
@@ -25,5 +25,5 @@ loop-c-preserved c = let l = c.loop-c in
 
 pub returns : goal.returns
 returns c = let l = c.loop-c in
-    let e : l.c ≡ c.args.columns = omega arith in
-    (rw e at l.invariant.0) ∙ rows_front _ _ _ _ c.requires.columns_in_bounds_2
+    let e : l.c ≡ c.args.parameter.columns = omega arith in
+    (rw e at l.invariant.0) ∙ rows_front _ _ _ _ c.requires.columns_in_bounds

@@ -2,6 +2,7 @@
 use mathlib.Core.Path.{◌≡◌, refl}
 use Prim.Native.Nat.{◌+◌, ◌*◌, ◌/◌}
 use native.Mathlib.Omega.{arith}
+use lib.ListN.{length}
 use Rattle.contraction.proofs.Gathers.{none}
 use Rattle.contraction.proofs.gather.Goals as goal
 
@@ -15,4 +16,4 @@ loop-b-preserved c = let l = c.loop-b in
 
 pub gather_rest-requires-2-clause-gathers : goal.gather_rest-requires-2-clause-gathers
 gather_rest-requires-2-clause-gathers c = let l = c.loop-b in
-    let z : l.b ≡ c.args.dim / 8 = omega arith in rw z at l.invariant.0
+    let z : l.b ≡ length c.args.parameter.now / 8 = omega arith in rw z at l.invariant.0

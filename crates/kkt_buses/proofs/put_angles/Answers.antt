@@ -5,17 +5,17 @@ use Rattle.kkt.proofs.Emitted.{puts_begin, puts_more, puts_done, puts_then}
 use Rattle.kkt_buses.proofs.put_angles.Goals as goal
 
 pub link_part-requires-clause-buses_in_bounds : goal.link_part-requires-clause-buses_in_bounds
-link_part-requires-clause-buses_in_bounds c = let few = c.args.kkt.now.grid.wired.laid.few in (omega (arith, few), omega (arith, few), omega (arith, few))
+link_part-requires-clause-buses_in_bounds c = let few = c.args.lines.now.sums.kkt.grid.wired.laid.few in (omega (arith, few), omega (arith, few), omega (arith, few))
 
 pub loop-j-init : goal.loop-j-init
-loop-j-init c = (puts_begin _ _ _ _, omega arith, omega arith, refl, omega (arith, c.args.kkt.now.grid.plan.readings_laid.few))
+loop-j-init c = (puts_begin _ _ _ _, omega arith, omega arith, refl, omega (arith, c.args.lines.now.sums.kkt.grid.plan.readings_laid.few))
 
 pub put_ends-requires-clause-j_lt_buses : goal.put_ends-requires-clause-j_lt_buses
-put_ends-requires-clause-j_lt_buses c = let i = c.loop-j.invariant in (omega (arith, i, c.loop-j-test), omega (arith, i, c.requires.at_bound))
+put_ends-requires-clause-j_lt_buses c = let i = c.loop-j.invariant in (omega (arith, i, c.loop-j-test), omega (arith, i, c.requires))
 
 pub put_angle_rest-requires-clause-buses_in_bounds : goal.put_angle_rest-requires-clause-buses_in_bounds
 put_angle_rest-requires-clause-buses_in_bounds c = let i = c.loop-j.invariant in
-    (omega (arith, c.link_part.auto, c.args.kkt.now.grid.plan.readings_laid.few), omega (arith, i, c.loop-j-test), omega (arith, i, c.put_ends.ensures.most, c.requires.at_bound))
+    (omega (arith, c.link_part.auto, c.args.lines.now.sums.kkt.grid.plan.readings_laid.few), omega (arith, i, c.loop-j-test), omega (arith, i, c.put_ends.ensures.most, c.requires))
 
 pub loop-j-preserved : goal.loop-j-preserved
 loop-j-preserved c = let i = c.loop-j.invariant in

@@ -12,10 +12,10 @@ use Rattle.kkt.specs.Slots.Rule.{first_place}
 use Rattle.kkt_buses.proofs.put_angles.Given as goal
 
 abbrev pub invariant-loop-j : goal.invariant-loop-j
-invariant-loop-j l = Gains (emitted (start_in l.kkt.index) (reading l.kkt.grid.plan.counts l.kkt.grid.plan.readings.now) (solved l.kkt.grid.plan.counts l.kkt.index.pieces l.kkt.sheet.now) (each l.j (va_column first_place l.kkt.grid.plan.counts l.kkt.grid.plan.wiring.now))) l.initial.sink l.sink
+invariant-loop-j l = Gains (emitted (start_in l.lines.sums.kkt.index) (reading l.lines.sums.kkt.grid.plan.counts l.lines.sums.kkt.grid.plan.readings.now) (solved l.lines.sums.kkt.grid.plan.counts l.lines.sums.kkt.index.pieces l.lines.sums.kkt.sheet.now) (each l.j (va_column first_place l.lines.sums.kkt.grid.plan.counts l.lines.sums.kkt.grid.plan.wiring.now))) l.initial.sink l.sink
     × (l.sink.count ≤ l.initial.sink.count + 4353 * l.j)
     × (l.j ≤ l.to)
-    × (l.to ≡ l.kkt.grid.plan.counts.buses)
+    × (l.to ≡ l.lines.sums.kkt.grid.plan.counts.buses)
     × (l.to ≤ 256)
 
 abbrev pub decreases-loop-j : goal.decreases-loop-j

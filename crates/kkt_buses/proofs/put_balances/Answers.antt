@@ -5,18 +5,18 @@ use Rattle.kkt.proofs.Emitted.{puts_begin, puts_more, puts_done, puts_then}
 use Rattle.kkt_buses.proofs.put_balances.Goals as goal
 
 pub link_part-requires-clause-buses_in_bounds : goal.link_part-requires-clause-buses_in_bounds
-link_part-requires-clause-buses_in_bounds c = let few = c.args.kkt.now.grid.wired.laid.few in (omega (arith, few), omega (arith, few), omega (arith, few))
+link_part-requires-clause-buses_in_bounds c = let few = c.args.sums.now.kkt.grid.wired.laid.few in (omega (arith, few), omega (arith, few), omega (arith, few))
 
 pub loop-i-init : goal.loop-i-init
-loop-i-init c = (puts_begin _ _ _ _, omega arith, omega arith, refl, omega (arith, c.args.kkt.now.grid.plan.readings_laid.few))
+loop-i-init c = (puts_begin _ _ _ _, omega arith, omega arith, refl, omega (arith, c.args.sums.now.kkt.grid.plan.readings_laid.few))
 
-pub put_kept-requires-clause-j_lt_buses : goal.put_kept-requires-clause-j_lt_buses
-put_kept-requires-clause-j_lt_buses c = let i = c.loop-i.invariant in (omega (arith, i, c.loop-i-test), omega (arith, i, c.requires.at_bound))
+pub put_kept-requires : goal.put_kept-requires
+put_kept-requires c = let i = c.loop-i.invariant in (omega (arith, i, c.loop-i-test), omega (arith, i, c.requires))
 
 pub put_injections-requires-clause-buses_in_bounds : goal.put_injections-requires-clause-buses_in_bounds
 put_injections-requires-clause-buses_in_bounds c = let i = c.loop-i.invariant in
-    let few = c.args.kkt.now.grid.plan.readings_laid.few in
-    (omega (arith, c.link_part.auto, few), omega (arith, c.link_part.auto, few), omega (arith, i, c.loop-i-test), omega (arith, i, c.put_kept.ensures.most, c.requires.at_bound))
+    let few = c.args.sums.now.kkt.grid.plan.readings_laid.few in
+    (omega (arith, c.link_part.auto, few), omega (arith, c.link_part.auto, few), omega (arith, i, c.loop-i-test), omega (arith, i, c.put_kept.ensures.most, c.requires))
 
 pub loop-i-preserved : goal.loop-i-preserved
 loop-i-preserved c = let i = c.loop-i.invariant in

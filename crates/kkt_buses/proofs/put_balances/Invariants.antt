@@ -11,10 +11,10 @@ use Rattle.kkt.specs.Slots.{nu_bal_column}
 use Rattle.kkt_buses.proofs.put_balances.Given as goal
 
 abbrev pub invariant-loop-i : goal.invariant-loop-i
-invariant-loop-i l = Gains (emitted (start_in l.kkt.index) (reading l.kkt.grid.plan.counts l.kkt.grid.plan.readings.now) (solved l.kkt.grid.plan.counts l.kkt.index.pieces l.kkt.sheet.now) (each l.i (nu_bal_column l.kkt.grid.plan.counts l.kkt.grid.plan.wiring.now))) l.initial.sink l.sink
+invariant-loop-i l = Gains (emitted (start_in l.sums.kkt.index) (reading l.sums.kkt.grid.plan.counts l.sums.kkt.grid.plan.readings.now) (solved l.sums.kkt.grid.plan.counts l.sums.kkt.index.pieces l.sums.kkt.sheet.now) (each l.i (nu_bal_column l.sums.kkt.grid.plan.counts l.sums.kkt.grid.plan.wiring.now))) l.initial.sink l.sink
     × (l.sink.count ≤ l.initial.sink.count + 1537 * l.i)
     × (l.i ≤ l.to)
-    × (l.to ≡ l.kkt.grid.plan.counts.buses)
+    × (l.to ≡ l.sums.kkt.grid.plan.counts.buses)
     × (l.to ≤ 256)
 
 abbrev pub decreases-loop-i : goal.decreases-loop-i

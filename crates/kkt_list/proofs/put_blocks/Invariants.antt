@@ -10,10 +10,7 @@ use Rattle.kkt.specs.Slots.Rule.{first_place}
 use Rattle.kkt.specs.Matrix.{emitted}
 use Rattle.kkt_list.proofs.put_blocks.Given as goal
 
-abbrev pub invariant-loop-k : goal.invariant-loop-k
-invariant-loop-k l = Gains (emitted (start_in l.site.kkt.index) (reading l.site.kkt.grid.plan.counts l.site.kkt.grid.plan.readings.now) (solved l.site.kkt.grid.plan.counts l.site.kkt.index.pieces l.site.kkt.sheet.now) (each l.k (λ k. block_slots (site_of first_place l.site.kkt.grid.plan.counts l.site.kkt.grid.plan.wiring.now l.site.kkt.grid.plan.readings.now l.site.term_index.now l.site.term_coefficient.now) (emission_at k)))) l.initial.sink l.sink
-    × (l.sink.count ≤ 0x18_0000 * l.k)
-    × (l.k ≤ 18)
-
-abbrev pub decreases-loop-k : goal.decreases-loop-k
-decreases-loop-k l = 18 - l.k
+abbrev pub invariant-loop-b : goal.invariant-loop-b
+invariant-loop-b l = Gains (emitted (start_in l.site.lines.sums.kkt.index) (reading l.site.lines.sums.kkt.grid.plan.counts l.site.lines.sums.kkt.grid.plan.readings.now) (solved l.site.lines.sums.kkt.grid.plan.counts l.site.lines.sums.kkt.index.pieces l.site.lines.sums.kkt.sheet.now) (each l.b-index (λ k. block_slots (site_of first_place l.site.lines.sums.kkt.grid.plan.counts l.site.lines.sums.kkt.grid.plan.wiring.now l.site.lines.sums.kkt.grid.plan.readings.now l.site.term_index.now l.site.term_coefficient.now) (emission_at k)))) l.initial.sink l.sink
+    × (l.sink.count ≤ 0x18_0000 * l.b-index)
+    × (l.b-index ≤ 18)

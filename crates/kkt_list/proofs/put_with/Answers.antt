@@ -2,17 +2,16 @@
 use Rattle.kkt.specs.Slots.{slots, site_of}
 use Rattle.kkt.specs.Slots.Rule.{first_place}
 use Rattle.kkt.specs.Matrix.{kkt_matrix_list}
-use Rattle.kkt_index.proofs.Starts.{narrow, few_rows}
 use Rattle.kkt_list.proofs.Places.{by_starts}
 use Rattle.kkt_list.proofs.put_with.Goals as goal
 
-pub invariant_of-lines : goal.invariant_of-lines
-invariant_of-lines g c = let i = c.index_of.ensures in record {
-  sheet_laid = rw i.pieces_is c.requires.sheet_laid;
+pub invariant_of-kkt : goal.invariant_of-kkt
+invariant_of-kkt g c = let i = c.of-index.ensures.indexed in record {
+  sheet_laid = rw i.pieces_is c.args.solved.now.sheet_laid;
   pieces_are = i.pieces_is;
-  narrow = narrow i c.args.site.now.grid.plan.readings_laid.few c.requires.sheet_laid.few_pieces (few_rows _ _ _);
+  narrow = c.of-index.ensures.narrow;
 }
 
 pub returns-clause-puts : goal.returns-clause-puts
 unfolding kkt_matrix_list slots
-returns-clause-puts g c = let a = c.args in by_starts c.index_of.ensures a.site.now.grid.plan.readings.now a.sheet.now (slots (site_of first_place a.site.now.grid.plan.counts a.site.now.grid.plan.wiring.now a.site.now.grid.plan.readings.now a.site.now.term_index.now a.site.now.term_coefficient.now)) c.put_blocks.ensures.puts
+returns-clause-puts g c = let a = c.args in by_starts c.of-index.ensures.indexed a.solved.now.site.grid.plan.readings.now a.solved.now.sheet.now (slots (site_of first_place a.solved.now.site.grid.plan.counts a.solved.now.site.grid.plan.wiring.now a.solved.now.site.grid.plan.readings.now a.solved.now.site.term_index.now a.solved.now.site.term_coefficient.now)) c.put_blocks.ensures.puts

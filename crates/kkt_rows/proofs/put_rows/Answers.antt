@@ -17,11 +17,15 @@ loop-q-init c = let k = c.args.site.now.kkt in
     let n = k.grid.plan.counts in
     (puts_begin (start_in k.index) (reading n k.grid.plan.readings.now) (solved n k.index.pieces k.sheet.now) _, omega arith, omega arith, refl, start_none _ _ _, omega arith, terms_none _ _)
 
+pub invariant_of-line : goal.invariant_of-line
+invariant_of-line c = let v = c.loop-q.invariant in
+    record { q_lt_rows = omega (arith, c.loop-q-test.true, v.3); begins = v.6 }
+
 pub put_row-requires : goal.put_row-requires
 put_row-requires c = let v = c.loop-q.invariant in
     let h = c.loop-q-test.true in
     let f = c.args.site.now.kkt.grid.wired.laid.few.rows in
-    record { q_lt_rows = omega (arith, h, v.3); start_value = v.6; at_bound = (omega (arith, h, v.3, v.5, f), omega (arith, h, v.1, v.3, f, c.requires)) }
+    (omega (arith, h, v.3, v.5, f), omega (arith, h, v.1, v.3, f, c.requires))
 
 pub row_limits-requires : goal.row_limits-requires
 row_limits-requires c = omega (arith, c.loop-q-test.true, c.loop-q.invariant.3)

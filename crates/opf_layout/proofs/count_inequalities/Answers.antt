@@ -9,7 +9,7 @@ pub sum-requires-clause-fits : goal.sum-requires-clause-fits
 unfolding inequality_rank
 sum-requires-clause-fits c =
     range_fits _ (limit c.args.plan.now.counts c.args.plan.now.wiring.now c.args.plan.now.readings.now) c.args.plan.now.counts.rows c.map.ensures.source c.map.ensures.closure (λ x r q k. search rules) _
-    (omega (arith, c.requires, inequality_few c.args.plan.now.counts c.args.plan.now.wiring.now c.args.plan.now.readings.now c.args.plan.now.counts.rows))
+    (omega (arith, inequality_few c.args.plan.now.counts c.args.plan.now.wiring.now c.args.plan.now.readings.now c.args.plan.now.counts.rows))
 
 pub returns : goal.returns
 unfolding inequality_rank

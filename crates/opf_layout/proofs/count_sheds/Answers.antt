@@ -9,7 +9,7 @@ pub sum-requires-clause-fits : goal.sum-requires-clause-fits
 unfolding active_rank
 sum-requires-clause-fits c =
     range_fits _ (one_of (sheds c.args.plan.now.counts c.args.plan.now.wiring.now c.args.plan.now.readings.now)) c.args.plan.now.counts.buses c.map.ensures.source c.map.ensures.closure (λ x r q k. search rules) _
-    (omega (arith, c.requires, rank_few (sheds c.args.plan.now.counts c.args.plan.now.wiring.now c.args.plan.now.readings.now) c.args.plan.now.counts.buses))
+    (omega (arith, rank_few (sheds c.args.plan.now.counts c.args.plan.now.wiring.now c.args.plan.now.readings.now) c.args.plan.now.counts.buses))
 
 pub returns : goal.returns
 unfolding active_rank

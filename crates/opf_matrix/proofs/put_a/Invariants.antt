@@ -13,31 +13,31 @@ use Rattle.opf_program.specs.Walks.{written}
 use Rattle.opf_matrix.proofs.put_a.Given as goal
 
 abbrev pub invariant-loop-i : goal.invariant-loop-i
-invariant-loop-i l = Gains (written l.lay l.site.grid.plan.counts l.site.grid.plan.readings.now (each l.i (shed_entry l.site.grid.plan.counts l.site.grid.plan.wiring.now l.site.grid.plan.readings.now))) l.initial.sink l.sink
+invariant-loop-i l = Gains (written l.fn.lay l.site.grid.plan.counts l.site.grid.plan.readings.now (each l.i (shed_entry l.site.grid.plan.counts l.site.grid.plan.wiring.now l.site.grid.plan.readings.now))) l.initial.sink l.sink
     × (l.sink.count ≤ 2048 * l.i)
     × (l.shed ≡ active_rank (sheds l.site.grid.plan.counts l.site.grid.plan.wiring.now l.site.grid.plan.readings.now) l.i)
 
 abbrev pub invariant-loop-j : goal.invariant-loop-j
-invariant-loop-j l = Gains (written l.lay l.site.grid.plan.counts l.site.grid.plan.readings.now (each l.j (generator_entry l.site.grid.plan.counts l.site.grid.plan.wiring.now l.site.grid.plan.readings.now))) l.initial.sink l.sink
+invariant-loop-j l = Gains (written l.fn.lay l.site.grid.plan.counts l.site.grid.plan.readings.now (each l.j (generator_entry l.site.grid.plan.counts l.site.grid.plan.wiring.now l.site.grid.plan.readings.now))) l.initial.sink l.sink
     × (l.sink.count ≤ 0x100000 + 2048 * l.j)
 
 abbrev pub invariant-loop-e : goal.invariant-loop-e
-invariant-loop-e l = Gains (written l.lay l.site.grid.plan.counts l.site.grid.plan.readings.now (each l.e (branch_entries l.site.grid.plan.counts l.site.grid.plan.wiring.now l.site.grid.plan.readings.now))) l.initial.sink l.sink
+invariant-loop-e l = Gains (written l.fn.lay l.site.grid.plan.counts l.site.grid.plan.readings.now (each l.e (branch_entries l.site.grid.plan.counts l.site.grid.plan.wiring.now l.site.grid.plan.readings.now))) l.initial.sink l.sink
     × (l.sink.count ≤ 0x200000 + 2048 * l.e)
     × (l.line ≡ active_rank (flagged l.site.grid.plan.counts l.site.grid.plan.wiring.now ThermalFlags) l.e)
     × (l.phase ≡ active_rank (flagged l.site.grid.plan.counts l.site.grid.plan.wiring.now AngleFlags) l.e)
 
 abbrev pub invariant-loop-t : goal.invariant-loop-t
-invariant-loop-t l = Gains (written l.lay l.site.grid.plan.counts l.site.grid.plan.readings.now (each l.t (reference_entry l.site.grid.plan.counts l.site.grid.plan.wiring.now l.site.grid.plan.readings.now))) l.initial.sink l.sink
+invariant-loop-t l = Gains (written l.fn.lay l.site.grid.plan.counts l.site.grid.plan.readings.now (each l.t (reference_entry l.site.grid.plan.counts l.site.grid.plan.wiring.now l.site.grid.plan.readings.now))) l.initial.sink l.sink
     × (l.sink.count ≤ 0x300000 + 2048 * l.t)
 
 abbrev pub invariant-loop-g : goal.invariant-loop-g
-invariant-loop-g l = Gains (written l.lay l.site.grid.plan.counts l.site.grid.plan.readings.now (each l.g (capability_entries l.site.grid.plan.counts l.site.grid.plan.wiring.now l.site.grid.plan.readings.now))) l.initial.sink l.sink
+invariant-loop-g l = Gains (written l.fn.lay l.site.grid.plan.counts l.site.grid.plan.readings.now (each l.g (capability_entries l.site.grid.plan.counts l.site.grid.plan.wiring.now l.site.grid.plan.readings.now))) l.initial.sink l.sink
     × (l.sink.count ≤ 0x400000 + 2048 * l.g)
     × (l.rank ≡ active_rank (flagged l.site.grid.plan.counts l.site.grid.plan.wiring.now GeneratorFlags) l.g)
 
 abbrev pub invariant-loop-s : goal.invariant-loop-s
-invariant-loop-s l = Gains (written l.lay l.site.grid.plan.counts l.site.grid.plan.readings.now (each l.s (shed_bounds l.site.grid.plan.counts l.site.grid.plan.wiring.now l.site.grid.plan.readings.now))) l.initial.sink l.sink
+invariant-loop-s l = Gains (written l.fn.lay l.site.grid.plan.counts l.site.grid.plan.readings.now (each l.s (shed_bounds l.site.grid.plan.counts l.site.grid.plan.wiring.now l.site.grid.plan.readings.now))) l.initial.sink l.sink
     × (l.sink.count ≤ 0x500000 + 2048 * l.s)
     × (l.shed ≡ active_rank (sheds l.site.grid.plan.counts l.site.grid.plan.wiring.now l.site.grid.plan.readings.now) l.s)
 

@@ -16,8 +16,8 @@ pub loop-j-preserved : goal.loop-j-preserved
 unfolding whole of_int of_bits
 loop-j-preserved c = let a = c.args in
     let l = c.loop-j in
-    let p = quad_put a.c a.readings.now (column_in a.lay Pg) l.j c.column.ensures.0 c.reading-v.ensures c.quad.ensures.puts in
-    (more _ _ l.invariant.0 p, omega (arith, c.quad.ensures.most, l.invariant.1), omega (arith, c.loop-j-test), l.invariant.3)
+    let p = quad_put a.c a.readings.now (column_in a.lay Pg) l.j c.column.ensures.0 c.reading-v.ensures (rw c.quad.ensures at c.put.ensures.puts) in
+    (more _ _ l.invariant.0 p, omega (arith, c.put.ensures.most, l.invariant.1), omega (arith, c.loop-j-test), l.invariant.3)
 
 pub returns-clause-puts : goal.returns-clause-puts
 returns-clause-puts c = let a = c.args in

@@ -1,205 +1,158 @@
 -- `opf_readback::put_entry` meets its contract, entry by entry. Assumes nothing.
-use mathlib.Core.Path.{refl}
+use native.Mathlib.Nat.{le_of_eq}
 use native.Mathlib.Omega.{arith}
-use Rattle.opf_layout.specs.declared.OpfColumn.TheVariants as columns
-use Rattle.opf_layout.specs.declared.OpfRow.TheVariants as rows
+use mathlib.Core.Path.{refl, sym, ◌∙◌}
 use Rattle.opf_layout.specs.Layout.{active_of}
-use Rattle.opf_readback.proofs.Entries.{column_room, row_room, cost_room, flow_next, shed_next, flows_long, powers_long, of_va, of_pg, of_flow, of_psh, of_nu_bal, of_lam_ub, of_lam_lb, of_rho_ub, of_rho_lb, of_mu_ub, of_mu_lb, of_gamma_ub, of_gamma_lb, of_epigraph, of_segment_dual, of_linear_dual, of_linear_value, of_objective}
+use Rattle.opf_readback.specs.Readback.{read_at}
+use Rattle.opf_readback.proofs.Entries.{block_long, rank_room, long_of, entry_is, turned_entry, picked_entry, lower_entry, duals_entry, values_entry, objective_entry, one_word}
 use Rattle.opf_readback.proofs.put_entry.Goals as goal
 
-pub put_block-requires-clause-count_in_bounds : goal.put_block-requires-clause-count_in_bounds
-put_block-requires-clause-count_in_bounds c = let h = c.requires.raw_laid in
-    ((column_room h columns.Va).0, (column_room h columns.Va).1, omega (arith, c.args.site.now.grid.plan.readings_laid.few))
+pub copy_from_slice-requires : goal.copy_from_slice-requires
+copy_from_slice-requires c = omega (arith, long_of c.args.point.now c.in-Va.is c.requires, block_long _ _ c.columns.ensures)
 
-pub put_block-requires-in-Pg-clause-count_in_bounds : goal.put_block-requires-in-Pg-clause-count_in_bounds
-put_block-requires-in-Pg-clause-count_in_bounds c = let h = c.requires.raw_laid in
-    ((column_room h columns.Pg).0, (column_room h columns.Pg).1, omega (arith, c.args.site.now.grid.plan.readings_laid.few))
+pub copy_from_slice-requires-in-Pg : goal.copy_from_slice-requires-in-Pg
+copy_from_slice-requires-in-Pg c = omega (arith, long_of c.args.point.now c.in-Pg.is c.requires, block_long _ _ c.columns-in-Pg.ensures)
 
-pub put_block-requires-in-Flow-clause-count_in_bounds : goal.put_block-requires-in-Flow-clause-count_in_bounds
-put_block-requires-in-Flow-clause-count_in_bounds c = let h = c.requires.raw_laid in
-    ((column_room h columns.Flow).0, (column_room h columns.Flow).1, omega (arith, c.args.site.now.grid.plan.readings_laid.few))
+pub copy_from_slice-requires-in-Flow : goal.copy_from_slice-requires-in-Flow
+copy_from_slice-requires-in-Flow c = omega (arith, long_of c.args.point.now c.in-Flow.is c.requires, block_long _ _ c.columns-in-Flow.ensures)
 
-pub put_sheds-requires-clause-buses_in_bounds : goal.put_sheds-requires-clause-buses_in_bounds
+pub put_sheds-requires-clause-block_long : goal.put_sheds-requires-clause-block_long
 unfolding active_of
-put_sheds-requires-clause-buses_in_bounds c = let h = c.requires.raw_laid in
-    column_room h columns.Shed
+put_sheds-requires-clause-block_long c = rank_room _ _ _ _ (long_of c.args.point.now c.in-Psh.is c.requires) c.columns-in-Psh.ensures (le_of_eq refl)
 
-pub put_turned-requires-clause-count_in_bounds : goal.put_turned-requires-clause-count_in_bounds
-put_turned-requires-clause-count_in_bounds c = let h = c.requires.raw_laid in
-    ((row_room h rows.Balance).0, (row_room h rows.Balance).1, omega (arith, c.args.site.now.grid.plan.readings_laid.few))
+pub put_turned-requires : goal.put_turned-requires
+put_turned-requires c = omega (arith, long_of c.args.point.now c.in-NuBal.is c.requires, block_long _ _ c.rows.ensures)
 
-pub put_flagged-requires-clause-count_in_bounds : goal.put_flagged-requires-clause-count_in_bounds
+pub put_flagged-requires-clause-block_long : goal.put_flagged-requires-clause-block_long
 unfolding active_of
-put_flagged-requires-clause-count_in_bounds c = let h = c.requires.raw_laid in
-    row_room h rows.LineUb
+put_flagged-requires-clause-block_long c = rank_room _ _ _ _ (long_of c.args.point.now c.in-LamUb.is c.requires) c.rows-in-LamUb.ensures (le_of_eq refl)
 
-pub put_flagged-requires-in-LamLb-clause-count_in_bounds : goal.put_flagged-requires-in-LamLb-clause-count_in_bounds
+pub put_flagged-requires-in-LamLb-clause-block_long : goal.put_flagged-requires-in-LamLb-clause-block_long
 unfolding active_of
-put_flagged-requires-in-LamLb-clause-count_in_bounds c = let h = c.requires.raw_laid in
-    row_room h rows.LineLb
+put_flagged-requires-in-LamLb-clause-block_long c = rank_room _ _ _ _ (long_of c.args.point.now c.in-LamLb.is c.requires) c.rows-in-LamLb.ensures (le_of_eq refl)
 
-pub put_flagged-requires-in-RhoUb-clause-count_in_bounds : goal.put_flagged-requires-in-RhoUb-clause-count_in_bounds
+pub put_flagged-requires-in-RhoUb-clause-block_long : goal.put_flagged-requires-in-RhoUb-clause-block_long
 unfolding active_of
-put_flagged-requires-in-RhoUb-clause-count_in_bounds c = let h = c.requires.raw_laid in
-    row_room h rows.GenUb
+put_flagged-requires-in-RhoUb-clause-block_long c = rank_room _ _ _ _ (long_of c.args.point.now c.in-RhoUb.is c.requires) c.rows-in-RhoUb.ensures (le_of_eq refl)
 
-pub put_flagged-requires-in-RhoLb-clause-count_in_bounds : goal.put_flagged-requires-in-RhoLb-clause-count_in_bounds
+pub put_flagged-requires-in-RhoLb-clause-block_long : goal.put_flagged-requires-in-RhoLb-clause-block_long
 unfolding active_of
-put_flagged-requires-in-RhoLb-clause-count_in_bounds c = let h = c.requires.raw_laid in
-    row_room h rows.GenLb
+put_flagged-requires-in-RhoLb-clause-block_long c = rank_room _ _ _ _ (long_of c.args.point.now c.in-RhoLb.is c.requires) c.rows-in-RhoLb.ensures (le_of_eq refl)
 
-pub put_sheds-requires-in-MuUb-clause-buses_in_bounds : goal.put_sheds-requires-in-MuUb-clause-buses_in_bounds
+pub put_sheds-requires-in-MuUb-clause-block_long : goal.put_sheds-requires-in-MuUb-clause-block_long
 unfolding active_of
-put_sheds-requires-in-MuUb-clause-buses_in_bounds c = let h = c.requires.raw_laid in
-    row_room h rows.ShedUb
+put_sheds-requires-in-MuUb-clause-block_long c = rank_room _ _ _ _ (long_of c.args.point.now c.in-MuUb.is c.requires) c.rows-in-MuUb.ensures (le_of_eq refl)
 
-pub put_lower-requires-clause-buses_in_bounds : goal.put_lower-requires-clause-buses_in_bounds
+pub put_lower-requires-clause-balance_long : goal.put_lower-requires-clause-balance_long
+put_lower-requires-clause-balance_long c = omega (arith, long_of c.args.point.now c.in-MuLb.is c.requires, block_long _ _ c.rows-in-MuLb.ensures)
+
+pub put_lower-requires-clause-block_long : goal.put_lower-requires-clause-block_long
 unfolding active_of
-put_lower-requires-clause-buses_in_bounds c = let h = c.requires.raw_laid in
-    row_room h rows.Balance
+put_lower-requires-clause-block_long c = rank_room _ _ _ _ (long_of c.args.point.now c.in-MuLb.is c.requires) c.rows-in-MuLb-2.ensures (le_of_eq refl)
 
-pub put_lower-requires-clause-buses_in_bounds_2 : goal.put_lower-requires-clause-buses_in_bounds_2
+pub put_flagged-requires-in-GammaUb-clause-block_long : goal.put_flagged-requires-in-GammaUb-clause-block_long
 unfolding active_of
-put_lower-requires-clause-buses_in_bounds_2 c = let h = c.requires.raw_laid in
-    row_room h rows.ShedLb
+put_flagged-requires-in-GammaUb-clause-block_long c = rank_room _ _ _ _ (long_of c.args.point.now c.in-GammaUb.is c.requires) c.rows-in-GammaUb.ensures (le_of_eq refl)
 
-pub put_flagged-requires-in-GammaUb-clause-count_in_bounds : goal.put_flagged-requires-in-GammaUb-clause-count_in_bounds
+pub put_flagged-requires-in-GammaLb-clause-block_long : goal.put_flagged-requires-in-GammaLb-clause-block_long
 unfolding active_of
-put_flagged-requires-in-GammaUb-clause-count_in_bounds c = let h = c.requires.raw_laid in
-    row_room h rows.PhaseUb
+put_flagged-requires-in-GammaLb-clause-block_long c = rank_room _ _ _ _ (long_of c.args.point.now c.in-GammaLb.is c.requires) c.rows-in-GammaLb.ensures (le_of_eq refl)
 
-pub put_flagged-requires-in-GammaLb-clause-count_in_bounds : goal.put_flagged-requires-in-GammaLb-clause-count_in_bounds
+pub copy_from_slice-requires-in-Epigraph : goal.copy_from_slice-requires-in-Epigraph
 unfolding active_of
-put_flagged-requires-in-GammaLb-clause-count_in_bounds c = let h = c.requires.raw_laid in
-    row_room h rows.PhaseLb
+copy_from_slice-requires-in-Epigraph c = omega (arith, long_of c.args.point.now c.in-Epigraph.is c.requires, block_long _ _ c.columns-in-Epigraph.ensures)
 
-pub put_block-requires-in-Epigraph-clause-count_in_bounds : goal.put_block-requires-in-Epigraph-clause-count_in_bounds
-put_block-requires-in-Epigraph-clause-count_in_bounds c = let h = c.requires.raw_laid in
-    let q = c.requires.p_value in
-    cost_room h q.0
+pub copy_from_slice-requires-in-SegmentDual : goal.copy_from_slice-requires-in-SegmentDual
+copy_from_slice-requires-in-SegmentDual c = omega (arith, long_of c.args.point.now c.in-SegmentDual.is c.requires, block_long _ _ c.rows-in-SegmentDual.ensures)
 
-pub put_block-requires-in-SegmentDual-clause-count_in_bounds : goal.put_block-requires-in-SegmentDual-clause-count_in_bounds
-put_block-requires-in-SegmentDual-clause-count_in_bounds c = let h = c.requires.raw_laid in
-    ((row_room h rows.Segment).0, (row_room h rows.Segment).1, omega (arith, c.args.site.now.grid.plan.readings_laid.few))
-
-pub put_duals-requires-clause-rows_in_bounds : goal.put_duals-requires-clause-rows_in_bounds
+pub put_duals-requires-clause-equal_long : goal.put_duals-requires-clause-equal_long
 unfolding active_of
-put_duals-requires-clause-rows_in_bounds c = let h = c.requires.raw_laid in
-    row_room h rows.LinearEqual
+put_duals-requires-clause-equal_long c = le_of_eq (sym (block_long _ _ c.rows-in-LinearDual.ensures))
 
-pub put_duals-requires-clause-rows_in_bounds_2 : goal.put_duals-requires-clause-rows_in_bounds_2
+pub put_duals-requires-clause-limit_long : goal.put_duals-requires-clause-limit_long
 unfolding active_of
-put_duals-requires-clause-rows_in_bounds_2 c = let h = c.requires.raw_laid in
-    row_room h rows.LinearLimit
-
-pub offset_bounds-x-lay : goal.offset_bounds-x-lay
-offset_bounds-x-lay c = let h = c.requires.raw_laid in
-    omega (arith, shed_next h, flow_next h, (column_room h columns.Shed).0, (column_room h columns.Shed).1)
-
-pub slice_bounds-put_values-count : goal.slice_bounds-put_values-count
-slice_bounds-put_values-count c = let h = c.requires.raw_laid in
-    omega (arith, shed_next h, flow_next h, (column_room h columns.Shed).0, (column_room h columns.Shed).1)
-
-pub slice_bounds-put_values-start : goal.slice_bounds-put_values-start
-slice_bounds-put_values-start c = let h = c.requires.raw_laid in
-    omega (arith, shed_next h, flow_next h, (column_room h columns.Shed).0, (column_room h columns.Shed).1)
-
-pub slice_bounds-put_values-end : goal.slice_bounds-put_values-end
-slice_bounds-put_values-end c = let h = c.requires.raw_laid in
-    omega (arith, shed_next h, flow_next h, (column_room h columns.Shed).0, (column_room h columns.Shed).1)
-
-pub offset_bounds-x-lay-in-LinearValue : goal.offset_bounds-x-lay-in-LinearValue
-offset_bounds-x-lay-in-LinearValue c = let h = c.requires.raw_laid in
-    omega (arith, shed_next h, flow_next h, (column_room h columns.Shed).0, (column_room h columns.Shed).1)
-
-pub slice_bounds-put_values-count-in-LinearValue : goal.slice_bounds-put_values-count-in-LinearValue
-slice_bounds-put_values-count-in-LinearValue c = let h = c.requires.raw_laid in
-    omega (arith, shed_next h, flow_next h, (column_room h columns.Shed).0, (column_room h columns.Shed).1)
-
-pub slice_bounds-put_values-start-in-LinearValue : goal.slice_bounds-put_values-start-in-LinearValue
-slice_bounds-put_values-start-in-LinearValue c = let h = c.requires.raw_laid in
-    omega (arith, shed_next h, flow_next h, (column_room h columns.Shed).0, (column_room h columns.Shed).1)
-
-pub slice_bounds-put_values-end-in-LinearValue : goal.slice_bounds-put_values-end-in-LinearValue
-slice_bounds-put_values-end-in-LinearValue c = let h = c.requires.raw_laid in
-    omega (arith, shed_next h, flow_next h, (column_room h columns.Shed).0, (column_room h columns.Shed).1)
+put_duals-requires-clause-limit_long c = le_of_eq (sym (block_long _ _ c.rows-in-LinearDual-2.ensures))
 
 pub put_values-requires-clause-f_len : goal.put_values-requires-clause-f_len
-put_values-requires-clause-f_len c = let h = c.requires.raw_laid in
-    (flows_long h, powers_long h)
+put_values-requires-clause-f_len c = (block_long _ _ c.columns-in-LinearValue.ensures, block_long _ _ c.columns-in-LinearValue-2.ensures)
 
 pub objective_of-requires : goal.objective_of-requires
-objective_of-requires c = let h = c.requires.raw_laid in
-    column_room h columns.Pg
+objective_of-requires c = block_long _ _ c.columns-in-Objective.ensures
 
 pub returns-in-Va : goal.returns-in-Va
-returns-in-Va c = let a = c.args in
-    of_va c.requires.raw_laid a.site.now.term_index.now a.site.now.term_coefficient.now a.raw a.p a.out.now a.at c.in-Va.is c.put_block.ensures
+unfolding read_at active_of
+returns-in-Va c = entry_is c.args.point.now c.in-Va.is (c.copy_from_slice.ensures.after ∙ c.columns.ensures)
 
 pub returns-in-Pg : goal.returns-in-Pg
-returns-in-Pg c = let a = c.args in
-    of_pg c.requires.raw_laid a.site.now.term_index.now a.site.now.term_coefficient.now a.raw a.p a.out.now a.at c.in-Pg.is c.put_block-in-Pg.ensures
+unfolding read_at active_of
+returns-in-Pg c = entry_is c.args.point.now c.in-Pg.is (c.copy_from_slice-in-Pg.ensures.after ∙ c.columns-in-Pg.ensures)
 
 pub returns-in-Flow : goal.returns-in-Flow
-returns-in-Flow c = let a = c.args in
-    of_flow c.requires.raw_laid a.site.now.term_index.now a.site.now.term_coefficient.now a.raw a.p a.out.now a.at c.in-Flow.is c.put_block-in-Flow.ensures
+unfolding read_at active_of
+returns-in-Flow c = entry_is c.args.point.now c.in-Flow.is (c.copy_from_slice-in-Flow.ensures.after ∙ c.columns-in-Flow.ensures)
 
 pub returns-in-Psh : goal.returns-in-Psh
-returns-in-Psh c = let a = c.args in
-    of_psh c.requires.raw_laid a.site.now.term_index.now a.site.now.term_coefficient.now a.raw a.p a.out.now a.at c.in-Psh.is c.put_sheds.ensures
+unfolding read_at active_of
+returns-in-Psh c = entry_is c.args.point.now c.in-Psh.is (picked_entry _ _ _ _ _ c.put_sheds.ensures (long_of c.args.point.now c.in-Psh.is c.requires) c.columns-in-Psh.ensures (le_of_eq refl))
 
 pub returns-in-NuBal : goal.returns-in-NuBal
-returns-in-NuBal c = let a = c.args in
-    of_nu_bal c.requires.raw_laid a.site.now.term_index.now a.site.now.term_coefficient.now a.raw a.p a.out.now a.at c.in-NuBal.is c.put_turned.ensures
+unfolding read_at
+returns-in-NuBal c = entry_is c.args.point.now c.in-NuBal.is (turned_entry _ _ c.put_turned.ensures (long_of c.args.point.now c.in-NuBal.is c.requires) c.rows.ensures)
 
 pub returns-in-LamUb : goal.returns-in-LamUb
-returns-in-LamUb c = let a = c.args in
-    of_lam_ub c.requires.raw_laid a.site.now.term_index.now a.site.now.term_coefficient.now a.raw a.p a.out.now a.at c.in-LamUb.is c.put_flagged.ensures
+unfolding read_at active_of
+returns-in-LamUb c = entry_is c.args.point.now c.in-LamUb.is (picked_entry _ _ _ _ _ c.put_flagged.ensures (long_of c.args.point.now c.in-LamUb.is c.requires) c.rows-in-LamUb.ensures (le_of_eq refl))
 
 pub returns-in-LamLb : goal.returns-in-LamLb
-returns-in-LamLb c = let a = c.args in
-    of_lam_lb c.requires.raw_laid a.site.now.term_index.now a.site.now.term_coefficient.now a.raw a.p a.out.now a.at c.in-LamLb.is c.put_flagged-in-LamLb.ensures
+unfolding read_at active_of
+returns-in-LamLb c = entry_is c.args.point.now c.in-LamLb.is (picked_entry _ _ _ _ _ c.put_flagged-in-LamLb.ensures (long_of c.args.point.now c.in-LamLb.is c.requires) c.rows-in-LamLb.ensures (le_of_eq refl))
 
 pub returns-in-RhoUb : goal.returns-in-RhoUb
-returns-in-RhoUb c = let a = c.args in
-    of_rho_ub c.requires.raw_laid a.site.now.term_index.now a.site.now.term_coefficient.now a.raw a.p a.out.now a.at c.in-RhoUb.is c.put_flagged-in-RhoUb.ensures
+unfolding read_at active_of
+returns-in-RhoUb c = entry_is c.args.point.now c.in-RhoUb.is (picked_entry _ _ _ _ _ c.put_flagged-in-RhoUb.ensures (long_of c.args.point.now c.in-RhoUb.is c.requires) c.rows-in-RhoUb.ensures (le_of_eq refl))
 
 pub returns-in-RhoLb : goal.returns-in-RhoLb
-returns-in-RhoLb c = let a = c.args in
-    of_rho_lb c.requires.raw_laid a.site.now.term_index.now a.site.now.term_coefficient.now a.raw a.p a.out.now a.at c.in-RhoLb.is c.put_flagged-in-RhoLb.ensures
+unfolding read_at active_of
+returns-in-RhoLb c = entry_is c.args.point.now c.in-RhoLb.is (picked_entry _ _ _ _ _ c.put_flagged-in-RhoLb.ensures (long_of c.args.point.now c.in-RhoLb.is c.requires) c.rows-in-RhoLb.ensures (le_of_eq refl))
 
 pub returns-in-MuUb : goal.returns-in-MuUb
-returns-in-MuUb c = let a = c.args in
-    of_mu_ub c.requires.raw_laid a.site.now.term_index.now a.site.now.term_coefficient.now a.raw a.p a.out.now a.at c.in-MuUb.is c.put_sheds-in-MuUb.ensures
+unfolding read_at active_of
+returns-in-MuUb c = entry_is c.args.point.now c.in-MuUb.is (picked_entry _ _ _ _ _ c.put_sheds-in-MuUb.ensures (long_of c.args.point.now c.in-MuUb.is c.requires) c.rows-in-MuUb.ensures (le_of_eq refl))
 
 pub returns-in-MuLb : goal.returns-in-MuLb
-returns-in-MuLb c = let a = c.args in
-    of_mu_lb c.requires.raw_laid a.site.now.term_index.now a.site.now.term_coefficient.now a.raw a.p a.out.now a.at c.in-MuLb.is c.put_lower.ensures
+unfolding read_at active_of
+returns-in-MuLb c = entry_is c.args.point.now c.in-MuLb.is (lower_entry _ _ _ _ _ _ c.put_lower.ensures (long_of c.args.point.now c.in-MuLb.is c.requires) c.rows-in-MuLb.ensures c.rows-in-MuLb-2.ensures (le_of_eq refl))
 
 pub returns-in-GammaUb : goal.returns-in-GammaUb
-returns-in-GammaUb c = let a = c.args in
-    of_gamma_ub c.requires.raw_laid a.site.now.term_index.now a.site.now.term_coefficient.now a.raw a.p a.out.now a.at c.in-GammaUb.is c.put_flagged-in-GammaUb.ensures
+unfolding read_at active_of
+returns-in-GammaUb c = entry_is c.args.point.now c.in-GammaUb.is (picked_entry _ _ _ _ _ c.put_flagged-in-GammaUb.ensures (long_of c.args.point.now c.in-GammaUb.is c.requires) c.rows-in-GammaUb.ensures (le_of_eq refl))
 
 pub returns-in-GammaLb : goal.returns-in-GammaLb
-returns-in-GammaLb c = let a = c.args in
-    of_gamma_lb c.requires.raw_laid a.site.now.term_index.now a.site.now.term_coefficient.now a.raw a.p a.out.now a.at c.in-GammaLb.is c.put_flagged-in-GammaLb.ensures
+unfolding read_at active_of
+returns-in-GammaLb c = entry_is c.args.point.now c.in-GammaLb.is (picked_entry _ _ _ _ _ c.put_flagged-in-GammaLb.ensures (long_of c.args.point.now c.in-GammaLb.is c.requires) c.rows-in-GammaLb.ensures (le_of_eq refl))
 
 pub returns-in-Epigraph : goal.returns-in-Epigraph
-returns-in-Epigraph c = let a = c.args in
-    of_epigraph c.requires.raw_laid a.site.now.term_index.now a.site.now.term_coefficient.now a.raw a.p a.out.now a.at c.in-Epigraph.is c.put_block-in-Epigraph.ensures
+unfolding read_at active_of
+returns-in-Epigraph c = entry_is c.args.point.now c.in-Epigraph.is (c.copy_from_slice-in-Epigraph.ensures.after ∙ c.columns-in-Epigraph.ensures)
 
 pub returns-in-SegmentDual : goal.returns-in-SegmentDual
-returns-in-SegmentDual c = let a = c.args in
-    of_segment_dual c.requires.raw_laid a.site.now.term_index.now a.site.now.term_coefficient.now a.raw a.p a.out.now a.at c.in-SegmentDual.is c.put_block-in-SegmentDual.ensures
+unfolding read_at active_of
+returns-in-SegmentDual c = entry_is c.args.point.now c.in-SegmentDual.is (c.copy_from_slice-in-SegmentDual.ensures.after ∙ c.rows-in-SegmentDual.ensures)
 
 pub returns-in-LinearDual : goal.returns-in-LinearDual
-returns-in-LinearDual c = let a = c.args in
-    of_linear_dual c.requires.raw_laid a.site.now.term_index.now a.site.now.term_coefficient.now a.raw a.p a.out.now a.at c.in-LinearDual.is c.put_duals.ensures
+unfolding read_at active_of
+returns-in-LinearDual c = let p = c.args.point.now in
+    let s = p.site in
+    entry_is p c.in-LinearDual.is (duals_entry s.grid.plan.counts s.grid.plan.wiring.now s.grid.plan.readings.now s.term_index.now s.term_coefficient.now p.raw.x.now p.raw.z.now p.raw.objective c.put_duals.ensures (long_of c.args.point.now c.in-LinearDual.is c.requires) c.rows-in-LinearDual.ensures c.rows-in-LinearDual-2.ensures)
 
 pub returns-in-LinearValue : goal.returns-in-LinearValue
-returns-in-LinearValue c = let a = c.args in
-    of_linear_value c.requires.raw_laid a.site.now.term_index.now a.site.now.term_coefficient.now a.raw a.p a.out.now a.at c.in-LinearValue.is c.put_values.ensures
+unfolding read_at
+returns-in-LinearValue c = let p = c.args.point.now in
+    let s = p.site in
+    entry_is p c.in-LinearValue.is (values_entry s.grid.plan.counts s.grid.plan.wiring.now s.grid.plan.readings.now s.term_index.now s.term_coefficient.now p.raw.x.now p.raw.z.now p.raw.objective c.put_values.ensures (long_of c.args.point.now c.in-LinearValue.is c.requires) c.columns-in-LinearValue.ensures c.columns-in-LinearValue-2.ensures)
 
 pub returns-in-Objective : goal.returns-in-Objective
-returns-in-Objective c = let a = c.args in
-    of_objective c.requires.raw_laid a.site.now.term_index.now a.site.now.term_coefficient.now a.raw a.p a.out.now a.at c.in-Objective.is c.objective_of.ensures refl
+unfolding read_at
+returns-in-Objective c = let p = c.args.point.now in
+    let s = p.site in
+    entry_is p c.in-Objective.is (objective_entry s.grid.plan.counts s.grid.plan.wiring.now s.grid.plan.readings.now s.term_index.now s.term_coefficient.now p.raw.x.now p.raw.z.now p.raw.objective (one_word _ _ (long_of c.args.point.now c.in-Objective.is c.requires)) c.objective_of.ensures c.columns-in-Objective.ensures)

@@ -1,11 +1,14 @@
 -- `opf_readback::put_values` meets its contract: a row more each turn. Assumes nothing.
-use mathlib.Core.Path.{refl}
 use native.Mathlib.Omega.{arith}
-use Rattle.sens_snap.proofs.Stores.{none, more}
+use Rattle.sequence.proofs.Fronts.{none, more}
+use Rattle.opf_readback.proofs.Reading.{whole}
 use Rattle.opf_readback.proofs.put_values.Goals as goal
 
-pub loop-q-preserved : goal.loop-q-preserved
-loop-q-preserved c = (more _ c.loop-q.invariant.0 c.evaluate_at.ensures, omega arith, c.loop-q.invariant.2)
-
 pub loop-q-init : goal.loop-q-init
-loop-q-init c = (none _ _ _, omega arith, refl)
+loop-q-init c = none _ _
+
+pub loop-q-preserved : goal.loop-q-preserved
+loop-q-preserved c = more _ (omega (arith, c.loop-q.invariant.kept)) c.loop-q.invariant c.evaluate_at.ensures
+
+pub returns : goal.returns
+returns c = whole _ _ c.loop-q.invariant (omega (arith, c.loop-q.invariant.kept))

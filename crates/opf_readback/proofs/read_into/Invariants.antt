@@ -3,8 +3,9 @@ use mathlib.Core.Path.{◌≡◌}
 use Rattle.sequence.specs.Layout.{start}
 use Rattle.solution.specs.Sheet.{sizes}
 use Rattle.sens_snap.proofs.Stores.{Runs}
+use Rattle.opf_readback.specs.Points.{pieces_in}
 use Rattle.opf_readback.proofs.Entries.{entry_words}
 use Rattle.opf_readback.proofs.read_into.Given as goal
 
 abbrev pub invariant-loop-e : goal.invariant-loop-e
-invariant-loop-e l = Runs (entry_words l.site.grid.plan.counts l.site.grid.plan.wiring.now l.site.grid.plan.readings.now l.site.term_index.now l.site.term_coefficient.now l.x l.z l.raw l.p) 0 l.e-index l.at l.initial.out l.out × (l.at ≡ start (sizes l.site.grid.plan.counts l.p) l.e-index)
+invariant-loop-e l = Runs (entry_words l.point.site.grid.plan.counts l.point.site.grid.plan.wiring.now l.point.site.grid.plan.readings.now l.point.site.term_index.now l.point.site.term_coefficient.now l.point.raw.x.now l.point.raw.z.now l.point.raw.objective (pieces_in l.point)) 0 l.e-index l.at l.initial.out l.out × (l.at ≡ start (sizes l.point.site.grid.plan.counts (pieces_in l.point)) l.e-index)

@@ -16,7 +16,7 @@ use Rattle.opf_layout.specs.Layout.{rows}
 use Rattle.opf_layout.proofs.Blocks.{row_rank_of}
 use Rattle.opf_assembly.specs.Assembly.{right_sides, row_elements, row_words, b_sheet}
 use Rattle.opf_sides.specs.Walks.{Stores}
-use Rattle.opf_sides.proofs.Storing.{then, no_turn, turn, turn_room, room_next, made_turns, from_begin, whole}
+use Rattle.opf_sides.proofs.Storing.{then, words_begin, words_more, turn_room, room_next, made_turns, from_begin, whole}
 use Rattle.opf_sides.proofs.put_b.Goals as goal
 
 abbrev block : Counts → List ℕ → List Float → ℕ → List Float
@@ -62,37 +62,37 @@ pub fixed_into-requires : goal.fixed_into-requires
 fixed_into-requires c = let a = c.args in first_room a.grid.now.plan.counts a.grid.now.plan.wiring.now a.grid.now.plan.readings.now _ c.requires
 
 pub loop-block-init : goal.loop-block-init
-loop-block-init c = no_turn _ _ _
+loop-block-init c = words_begin _ _
 
 pub loop-i-init : goal.loop-i-init
-loop-i-init c = no_turn _ _ _
+loop-i-init c = words_begin _ _
 
 pub sides_of-requires : goal.sides_of-requires
 sides_of-requires c = let o = c.loop-block in
     (omega (arith, c.loop-i-test.true, c.row_elements-i-end.ensures), omega (arith, row_rank_of (suc o.block-index) (omega (arith, c.loop-block-test.true))))
 
-pub put_sides-at-requires : goal.put_sides-at-requires
-put_sides-at-requires c = let a = c.args in
+pub put_sides-requires : goal.put_sides-requires
+put_sides-requires c = let a = c.args in
     let o = c.loop-block in
     let l = c.loop-i in
     let t = c.loop-block-test.true in
     let b = get_or rows (suc o.block-index) Balance in
     let g = later_room a.grid.now.plan.counts a.grid.now.plan.wiring.now a.grid.now.plan.readings.now (first_block a.grid.now.plan.counts a.grid.now.plan.wiring.now a.grid.now.plan.readings.now c.fixed_into.ensures.out_after c.fixed_into.ensures.out_len_unchanged (first_room a.grid.now.plan.counts a.grid.now.plan.wiring.now a.grid.now.plan.readings.now _ c.requires)) c.requires in
-    let h = turn_room (later a.grid.now.plan.counts a.grid.now.plan.wiring.now a.grid.now.plan.readings.now) o.block-index 13 a.grid.now.plan.counts.buses (length o.b) t (rw o.invariant.kept g) o.invariant.next in
-    rw c.sides_of.ensures (turn_room (right_sides a.grid.now.plan.counts a.grid.now.plan.wiring.now a.grid.now.plan.readings.now b) l.i (row_elements a.grid.now.plan.counts b) o.at (length l.b) (omega (arith, c.loop-i-test.true, c.row_elements-i-end.ensures)) (rw l.invariant.kept h) l.invariant.next)
+    let h = turn_room (later a.grid.now.plan.counts a.grid.now.plan.wiring.now a.grid.now.plan.readings.now) o.block-index 13 a.grid.now.plan.counts.buses (length o.words.sheet.now) t (rw o.invariant.stores.kept g) o.invariant.stores.next in
+    rw c.sides_of.ensures (turn_room (right_sides a.grid.now.plan.counts a.grid.now.plan.wiring.now a.grid.now.plan.readings.now b) l.i (row_elements a.grid.now.plan.counts b) o.words.at (length l.words.sheet.now) (omega (arith, c.loop-i-test.true, c.row_elements-i-end.ensures)) (rw l.invariant.stores.kept h) l.invariant.stores.next)
 
 pub loop-i-preserved : goal.loop-i-preserved
-loop-i-preserved c = let q = rw c.sides_of.ensures at c.put_sides-at.ensures in
-    turn _ c.loop-i.i c.loop-i.invariant q
+loop-i-preserved c = let q = rw c.sides_of.ensures at c.put_sides.ensures in
+    words_more _ c.loop-i.i c.loop-i.invariant q
 
 pub loop-block-preserved : goal.loop-block-preserved
 loop-block-preserved c = let e : c.loop-i.i ≡ row_elements c.args.grid.now.plan.counts (get_or rows (suc c.loop-block.block-index) Balance) = omega (arith, c.row_elements-i-end.ensures) in
-    turn _ c.loop-block.block-index c.loop-block.invariant (rw e at c.loop-i.invariant)
+    words_more _ c.loop-block.block-index c.loop-block.invariant (rw e at c.loop-i.invariant)
 
 pub returns : goal.returns
 returns c = let a = c.args in
     let l = c.loop-block in
     let e : l.block-index ≡ 13 = omega arith in
     let p = first_block a.grid.now.plan.counts a.grid.now.plan.wiring.now a.grid.now.plan.readings.now c.fixed_into.ensures.out_after c.fixed_into.ensures.out_len_unchanged (first_room a.grid.now.plan.counts a.grid.now.plan.wiring.now a.grid.now.plan.readings.now _ c.requires) in
-    let q = then p (rw e at l.invariant) in
-    whole (rw (← (all_blocks a.grid.now.plan.counts a.grid.now.plan.wiring.now a.grid.now.plan.readings.now)) at q) c.requires
+    let q = then p (rw e at l.invariant.stores) in
+    rw (c.b-in-loop-block-1.given.1.1 (sym l.invariant.same)) (whole (rw (← (all_blocks a.grid.now.plan.counts a.grid.now.plan.wiring.now a.grid.now.plan.readings.now)) at q) c.requires)

@@ -1,47 +1,30 @@
--- `opf_sides::put_cones` meets its contract: four sizes, one after the other. Assumes nothing.
-use mathlib.Core.Bool.{true, not}
-use mathlib.Core.List.{List, [], ◌∷◌, ◌++◌}
-use Prim.Native.Nat.{ℕ, ◌+◌, ◌≤◌}
-use native.Mathlib.Nat.{zero-add}
+-- `opf_sides::put_cones` meets its contract: two sizes, and the linear ones where they are above 0. Assumes nothing.
+use mathlib.Core.Path.{refl}
+use mathlib.Core.Bool.{not}
+use mathlib.Core.List.{[], ◌∷◌}
 use lib.Dec.{eqb}
-use lib.ListN.{length}
+use lib.ListN.{set}
 use Rattle.sequence.specs.Lists.{when}
-use Rattle.opf_layout.specs.declared.OpfLayout.{OpfLayout}
-use Rattle.opf_sides.specs.Walks.{cones_in}
-use Rattle.opf_sides.proofs.Storing.{then, whole, room_first, room_next}
-use Rattle.opf_sides.proofs.Cones.{sizes, cones_list}
+use Rattle.opf_sides.specs.Walks.{Stores}
+use Rattle.opf_sides.proofs.Storing.{one, when_on, when_off}
+use Rattle.opf_sides.proofs.Cones.{above, at_zero, cones_put}
 use Rattle.opf_sides.proofs.put_cones.Goals as goal
+use Rattle.opf_sides.proofs.put_cones.Goals.{then-equalities-ne0, else-equalities-ne0}
 
-roomy : (x : OpfLayout) (room : ℕ) → length (cones_in x) ≤ room → 0 + length (sizes x) ≤ room
-roomy x room h = rw (cones_list x, zero-add) h
+pub returns-then-inequalities-ne0 : goal.returns-then-inequalities-ne0
+returns-then-inequalities-ne0 c = let x = c.args.lay in
+    let e : Stores (when (not (eqb x.active.equalities 0)) (x.active.equalities ∷ [])) 2 (set (set c.args.sizes.now 0 x.n_eq) 1 x.n_ineq) c.if-equalities-ne0.sizes c.if-equalities-ne0.k =
+    elim c.if-equalities-ne0.branch [
+      | then-equalities-ne0 w ↦ rw (w.sizes-is, w.k-is) (when_on (above w.if-equalities-ne0.true) (one 2 x.active.equalities refl))
+      | else-equalities-ne0 w ↦ rw (w.sizes-is, w.k-is) (when_off (x.active.equalities ∷ []) (at_zero w.if-equalities-ne0.false))
+    ] in
+    cones_put x c.args.sizes.now e (when_on (above c.if-inequalities-ne0.true) (one _ x.active.inequalities refl)) c.requires.lay_in_bounds
 
--- what is put second, third and last
-
-abbrev later : OpfLayout → List ℕ
-later x = when (not (eqb x.active.equalities 0)) (x.active.equalities ∷ []) ++ when (not (eqb x.active.inequalities 0)) (x.active.inequalities ∷ [])
-
-pub put_size-k-requires : goal.put_size-k-requires
-put_size-k-requires c = let x = c.args.lay in
-    (room_first (when true (x.n_eq ∷ [])) (when true (x.n_ineq ∷ []) ++ later x) 0 _ (roomy x _ c.requires.lay_in_bounds), c.requires.narrowed.first)
-
-pub put_size-k-requires-2 : goal.put_size-k-requires-2
-put_size-k-requires-2 c = let x = c.args.lay in
-    let h = room_next (when true (x.n_ineq ∷ []) ++ later x) c.put_size-k.ensures (roomy x _ c.requires.lay_in_bounds) in
-    (room_first (when true (x.n_ineq ∷ [])) (later x) _ _ h, c.requires.narrowed.second)
-
-pub put_size-k-requires-3 : goal.put_size-k-requires-3
-put_size-k-requires-3 c = let x = c.args.lay in
-    let h = room_next (when true (x.n_ineq ∷ []) ++ later x) c.put_size-k.ensures (roomy x _ c.requires.lay_in_bounds) in
-    let g = room_next (later x) c.put_size-k-2.ensures h in
-    (room_first (when (not (eqb x.active.equalities 0)) (x.active.equalities ∷ [])) (when (not (eqb x.active.inequalities 0)) (x.active.inequalities ∷ [])) _ _ g, c.requires.narrowed.third)
-
-pub put_size-requires : goal.put_size-requires
-put_size-requires c = let x = c.args.lay in
-    let h = room_next (when true (x.n_ineq ∷ []) ++ later x) c.put_size-k.ensures (roomy x _ c.requires.lay_in_bounds) in
-    let g = room_next (later x) c.put_size-k-2.ensures h in
-    (room_next (when (not (eqb x.active.inequalities 0)) (x.active.inequalities ∷ [])) c.put_size-k-3.ensures g, c.requires.narrowed.fourth)
-
-pub returns : goal.returns
-returns c = let x = c.args.lay in
-    let p = then c.put_size-k.ensures (then c.put_size-k-2.ensures (then c.put_size-k-3.ensures c.put_size.ensures)) in
-    whole (rw (cones_list x) at p) c.requires.lay_in_bounds
+pub returns-else-inequalities-ne0 : goal.returns-else-inequalities-ne0
+returns-else-inequalities-ne0 c = let x = c.args.lay in
+    let e : Stores (when (not (eqb x.active.equalities 0)) (x.active.equalities ∷ [])) 2 (set (set c.args.sizes.now 0 x.n_eq) 1 x.n_ineq) c.if-equalities-ne0.sizes c.if-equalities-ne0.k =
+    elim c.if-equalities-ne0.branch [
+      | then-equalities-ne0 w ↦ rw (w.sizes-is, w.k-is) (when_on (above w.if-equalities-ne0.true) (one 2 x.active.equalities refl))
+      | else-equalities-ne0 w ↦ rw (w.sizes-is, w.k-is) (when_off (x.active.equalities ∷ []) (at_zero w.if-equalities-ne0.false))
+    ] in
+    cones_put x c.args.sizes.now e (when_off (x.active.inequalities ∷ []) (at_zero c.if-inequalities-ne0.false)) c.requires.lay_in_bounds

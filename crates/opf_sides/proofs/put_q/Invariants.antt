@@ -4,11 +4,11 @@ use Rattle.sequence.specs.Lists.{each}
 use Rattle.opf_layout.specs.declared.OpfColumn.TheVariants.{Va}
 use Rattle.opf_layout.specs.Layout.{columns}
 use Rattle.opf_assembly.specs.Assembly.{linear, column_words}
-use Rattle.opf_sides.specs.Walks.{Stores}
+use Rattle.opf_sides.specs.Walks.{Adds}
 use Rattle.opf_sides.proofs.put_q.Given as goal
 
 abbrev pub invariant-loop-block : goal.invariant-loop-block
-invariant-loop-block l = Stores (each l.block-index (λ t. column_words l.plan.counts l.plan.wiring.now l.plan.readings.now (get_or columns t Va))) 0 l.initial.q l.q l.at
+invariant-loop-block l = Adds (each l.block-index (λ t. column_words l.plan.counts l.plan.wiring.now l.plan.readings.now (get_or columns t Va))) l.initial.words l.words
 
 abbrev pub invariant-loop-i : goal.invariant-loop-i
-invariant-loop-i l = Stores (each l.i (linear l.plan.counts l.plan.wiring.now l.plan.readings.now l.block)) l.initial.at l.initial.q l.q l.at
+invariant-loop-i l = Adds (each l.i (linear l.plan.counts l.plan.wiring.now l.plan.readings.now l.block)) l.initial.words l.words

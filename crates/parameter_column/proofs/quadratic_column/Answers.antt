@@ -6,4 +6,4 @@ use Rattle.parameter_column.proofs.quadratic_column.Goals as goal
 
 pub returns : goal.returns
 unfolding valued whole of_int of_bits
-returns c = λ w ti tc r. rw c.solved_at.ensures at c.touch.ensures.touched
+returns c = λ w ti tc r. rw c.solved_at.ensures at c.touch.ensures

@@ -1,12 +1,14 @@
 -- `problem::nodal_into` meets its contract, bus by bus. Assumes nothing.
-use mathlib.Core.Path.{refl}
 use native.Mathlib.Omega.{arith}
 use Rattle.sequence.proofs.Fronts.{none, more}
+use Rattle.opf_readback.proofs.Reading.{whole}
 use Rattle.problem.proofs.nodal_into.Goals as goal
 
 pub loop-i-init : goal.loop-i-init
-loop-i-init c = (none _ _, omega arith, refl, c.reading-base.ensures)
+loop-i-init c = none _ _
 
 pub loop-i-preserved : goal.loop-i-preserved
-loop-i-preserved c = let l = c.loop-i in
-    (more _ (omega arith) l.invariant.0 (rw (c.value.ensures, l.invariant.3)), omega arith, l.invariant.2, l.invariant.3)
+loop-i-preserved c = more _ (omega (arith, c.loop-i.invariant.kept)) c.loop-i.invariant (rw (c.value.ensures, c.reading-base.ensures))
+
+pub returns : goal.returns
+returns c = whole _ _ c.loop-i.invariant (omega (arith, c.loop-i.invariant.kept))

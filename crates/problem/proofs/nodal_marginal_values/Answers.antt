@@ -6,7 +6,7 @@ use Rattle.sequence.proofs.Answers.{refused}
 use Rattle.network.specs.declared.Counts.{Counts}
 use Rattle.opf_readback.specs.Readback.{nodal_sheet}
 use Rattle.sens_snap.proofs.Returns.{sheet_refused, sheet_short, sheet_done}
-use Rattle.problem.proofs.Nodal.{nodal_long}
+use Rattle.problem.proofs.Nodal.{nodal_long, part_front}
 use Rattle.problem.proofs.nodal_marginal_values.Goals as goal
 
 pub returns-in_err-site : goal.returns-in_err-site
@@ -21,4 +21,4 @@ pub returns : goal.returns
 unfolding nodal_sheet
 returns c = let s = c.in_ok-site.ensures in
     sheet_done _ _ _ _ s.number refl (nodal_long _ _ _ _ ∙ sym (ap (λ (k : Counts). k.buses) s.accepted.counts)) c.if-out-c.false
-    (rw (c.piece_count.ensures.0, s.accepted.counts, s.accepted.wiring, s.accepted.readings) at c.nodal_into.ensures)
+    (part_front _ c.args.out.now _ c.if-out-c.false c.nodal_into.ensures ∙ rw (c.piece_count.ensures.0, s.accepted.counts, s.accepted.wiring, s.accepted.readings))

@@ -5,13 +5,12 @@ use lib.Ieee.{ne, of_bits, of_int}
 use Rattle.std.specs.Prelude.{Some, None}
 use Rattle.std.specs.Bool.{then_some}
 use Rattle.float64.specs.Values.{whole}
-use Rattle.sequence.proofs.Sinks.{put_of}
 use Rattle.program_builder.proofs.a.Goals as goal
 
 then_some_cond : {A : Type 0} (b : Bool) (x : A) → then_some b x ≡ cond b (Some x) None
 then_some_cond true x = refl
 then_some_cond false x = refl
 
-pub returns-clause-puts : goal.returns-clause-puts
+pub returns : goal.returns
 unfolding ne whole of_int of_bits
-returns-clause-puts c = put_of (c.then_some.ensures ∙ then_some_cond _ _) c.put.ensures.puts
+returns c = c.then_some.ensures ∙ then_some_cond _ _

@@ -10,14 +10,18 @@ pub returns-in_err-site-clause-number : goal.returns-in_err-site-clause-number
 returns-in_err-site-clause-number c = let p = err_from_is_err_and c.from_residual.result c.from_residual.ensures.1 in
     rw (p.1, p.2) (before_refused _ _ _ _ c.raw_is_long-sizes.ensures _ c.in_err-site.ensures.number)
 
-pub returns-then-raw_holds-clause-number : goal.returns-then-raw_holds-clause-number
-returns-then-raw_holds-clause-number c = sym (ap (λ (v : Bool). cond v 0 3) (sym c.raw_holds.ensures ∙ c.if-raw_holds.true))
+pub returns-then-not-raw_holds-clause-number : goal.returns-then-not-raw_holds-clause-number
+returns-then-not-raw_holds-clause-number c = sym (ap (λ (v : Bool). cond v 0 3) (sym c.raw_holds.ensures ∙ c.if-not-raw_holds.true))
     ∙ (before_accepted _ _ _ _ c.raw_is_long-sizes.ensures c.in_ok-site.ensures.number).1
 
-pub returns-then-raw_holds-clause-raw_accepted : goal.returns-then-raw_holds-clause-raw_accepted
-returns-then-raw_holds-clause-raw_accepted c = let a = c.in_ok-site.ensures in
-    raw_accepted _ _ _ a.accepted.accepted (before_accepted _ _ _ true c.raw_is_long-sizes.ensures a.number).0
-
-pub returns-else-raw_holds-clause-number : goal.returns-else-raw_holds-clause-number
-returns-else-raw_holds-clause-number c = sym (ap (λ (v : Bool). cond v 0 3) (sym c.raw_holds.ensures ∙ c.if-raw_holds.false))
-    ∙ (before_accepted _ _ _ _ c.raw_is_long-sizes.ensures c.in_ok-site.ensures.number).1
+pub invariant_of-result : goal.invariant_of-result
+invariant_of-result c = let a = c.in_ok-site.ensures in
+    let r = raw_accepted _ _ _ a.accepted.accepted (before_accepted _ _ _ true c.raw_is_long-sizes.ensures a.number).0 in
+    record {
+      raw_laid = record {
+        placed = c.of-lay.ensures.placed;
+        bounded = c.of-lay.ensures.bounded;
+        columns_long = rw (a.accepted.wiring, a.accepted.readings) r.columns_long;
+        rows_long = rw (a.accepted.wiring, a.accepted.readings) r.rows_long;
+      };
+    }

@@ -1,5 +1,5 @@
 -- `raw_check::raw_is_long` meets its contract: where the network's sizes hold, both lengths are compared. Assumes nothing.
-use mathlib.Core.Path.{◌∙◌}
+use mathlib.Core.Path.{refl, ◌∙◌}
 use borrow.Author.Tests.{ne_eqb}
 use Rattle.sequence.proofs.Lists.{failed, held}
 use Rattle.network.proofs.Tests.{sized_nine, sized_wiring, sized_readings}
@@ -16,8 +16,8 @@ counts-c-requires c = sized_nine _ (held c.sizes_hold.ensures c.if-not-sizes_hol
 pub invariant_of-plan : goal.invariant_of-plan
 invariant_of-plan c = let h = held c.sizes_hold.ensures c.if-not-sizes_hold.false in rw c.counts-c.ensures (record { wiring_laid = sized_wiring _ h; readings_laid = sized_readings _ h })
 
-pub returns-then-x-lay : goal.returns-then-x-lay
-returns-then-x-lay c = λ e. rows_left _ _ _ c.counts-c.ensures c.active_of.ensures.0 c.dc-lay.ensures c.if-x-lay.true
+pub returns-then-raw-lay : goal.returns-then-raw-lay
+returns-then-raw-lay c = λ e. rows_left _ _ _ c.counts-c.ensures refl c.of-lay.ensures.placed c.if-raw-lay.true
 
-pub returns-else-x-lay : goal.returns-else-x-lay
-returns-else-x-lay c = λ e. ne_eqb _ _ c.if-x-lay.false ∙ columns_off _ _ _ c.counts-c.ensures c.active_of.ensures.0 c.dc-lay.ensures c.if-x-lay.false
+pub returns-else-raw-lay : goal.returns-else-raw-lay
+returns-else-raw-lay c = λ e. ne_eqb _ _ c.if-raw-lay.false ∙ columns_off _ _ _ c.counts-c.ensures refl c.of-lay.ensures.placed c.if-raw-lay.false

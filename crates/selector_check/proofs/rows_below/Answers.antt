@@ -1,24 +1,22 @@
--- `selector_check::rows_below` meets its contract. The loop's invariant: each row passed is below dim. Assumes nothing.
-use mathlib.Core.Path.{◌≡◌, sym}
+-- `selector_check::rows_below` meets its contract: each row is below dim. Assumes nothing.
+use mathlib.Core.Path.{◌∙◌}
+use mathlib.Core.Bool.{Bool}
+use Prim.Native.Nat.{ℕ}
 use native.Mathlib.Omega.{arith}
+use lib.Dec.{ltb}
 use lib.ListN.{length}
-use borrow.Author.Tests.{le-ltb, lt-ltb}
-use Rattle.sequence.proofs.Lists.{every_none, every_more, every_fails}
+use lib.Seq.{take-length}
+use Rattle.std.proofs.Common.{rules, tests}
+use Rattle.std.proofs.lemmas.Iterator.{YieldsList-from_slice}
+use Rattle.std.proofs.lemmas.Iterator.Search.{all_from_yields_List}
+use Rattle.network.proofs.Tests.{all_first}
 use Rattle.selector_check.specs.Tests.{rows_below}
 use Rattle.selector_check.proofs.rows_below.Goals as goal
 
-pub loop-row-init : goal.loop-row-init
-loop-row-init c = every_none _
-
-pub returns-then-dim-wide : goal.returns-then-dim-wide
-unfolding rows_below
-returns-then-dim-wide c = sym (every_fails _ c.loop-row.row-index _ c.loop-row-test.true (le-ltb _ _ (rw c.wide.ensures.0 at c.if-dim-wide.true)))
-
-pub loop-row-preserved : goal.loop-row-preserved
-loop-row-preserved c = every_more _ c.loop-row.row-index c.loop-row.invariant (lt-ltb _ _ (rw c.wide.ensures.0 at c.if-dim-wide.false))
-
 pub returns : goal.returns
 unfolding rows_below
-returns c = let l = c.loop-row in
-    let e : l.row-index ≡ length c.args.rows.now = omega arith in
-    sym (rw e at l.invariant)
+returns c = let rows = c.args.rows.now in
+    let test : ℕ → Bool = λ r. ltb r c.args.dim in
+    let e = all_first test rows 0 (length rows) (omega arith) in
+    all_from_yields_List test _ _ _ c.all.ensures.ran (YieldsList-from_slice rows cc) (λ x b q k. search (rules, tests))
+    ∙ (rw take-length at e)

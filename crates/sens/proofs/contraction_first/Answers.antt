@@ -17,9 +17,9 @@ pub overflow_mul-result : goal.overflow_mul-result
 overflow_mul-result c = let s = c.in_ok-site.ensures in
     omega (arith, forward_count (network_in c.args.lent) c.args.mode (selector_in c.args.selector) c.args.columns s.first_accepted c.in-Forward.is (dim_in s.accepted c.site_dim-dim.ensures))
 
-pub lay_selection-requires : goal.lay_selection-requires
-lay_selection-requires c = let s = c.in_ok-site.ensures in
-    rw (dim_in s.accepted c.site_dim-dim.ensures) s.first_accepted.entered
+pub invariant_of-lay_selection : goal.invariant_of-lay_selection
+invariant_of-lay_selection c = let s = c.in_ok-site.ensures in
+    rw (dim_in s.accepted c.site_dim-dim.ensures) (record { entered = s.first_accepted.entered })
 
 pub returns-in-Forward : goal.returns-in-Forward
 returns-in-Forward c = let s = c.in_ok-site.ensures in

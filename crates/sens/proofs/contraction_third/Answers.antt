@@ -18,10 +18,16 @@ returns-in_err-site c = let e : c.from_residual.result ≡ Err c.in_err-site.fie
 pub returns-then-not-fits : goal.returns-then-not-fits
 returns-then-not-fits c = third_short _ _ _ _ _ _ _ c.in_ok-site.ensures.number refl (failed c.fits.ensures c.if-not-fits.true)
 
+pub invariant_of-entries : goal.invariant_of-entries
+invariant_of-entries c = let s = c.in_ok-site.ensures in
+    rw (dim_in s.accepted c.site_dim.ensures) (record { entered = s.third_accepted.entered })
+
+pub invariant_of-sides : goal.invariant_of-sides
+invariant_of-sides c = let s = c.in_ok-site.ensures in
+    rw (dim_in s.accepted c.site_dim.ensures) (record { sided = s.third_accepted.sided })
+
 pub contract-requires : goal.contract-requires
-contract-requires c = let s = c.in_ok-site.ensures in
-    let h : length c.args.selector.counts.now * c.args.columns ≤ length c.args.out.now = leb-true _ _ (held c.fits.ensures c.if-not-fits.false) in
-    rw (dim_in s.accepted c.site_dim.ensures) (record { entered = s.third_accepted.entered; sided = s.third_accepted.sided; columns_in_bounds = h })
+contract-requires c = leb-true _ _ (held c.fits.ensures c.if-not-fits.false)
 
 pub overflow_mul-result : goal.overflow_mul-result
 overflow_mul-result c = let h : length c.args.selector.counts.now * c.args.columns ≤ length c.args.out.now = leb-true _ _ (held c.fits.ensures c.if-not-fits.false) in

@@ -12,11 +12,11 @@ returns-then-not-fits c = selection_short _ _ _ (failed c.fits.ensures c.if-not-
 
 pub overflow_mul-result : goal.overflow_mul-result
 overflow_mul-result c = let a = c.args in
-    let h : a.dim * length a.selector.counts.now ≤ length a.selection.now = leb-true _ _ (held c.fits.ensures c.if-not-fits.false) in
+    let h : a.entries.dim * length a.entries.selector.counts.now ≤ length a.selection.now = leb-true _ _ (held c.fits.ensures c.if-not-fits.false) in
     omega (arith, h, c.well_formed)
 
-pub select-requires-clause-counts_in_bounds : goal.select-requires-clause-counts_in_bounds
-select-requires-clause-counts_in_bounds c = leb-true _ _ (held c.fits.ensures c.if-not-fits.false)
+pub select-requires : goal.select-requires
+select-requires c = leb-true _ _ (held c.fits.ensures c.if-not-fits.false)
 
 pub returns : goal.returns
 returns c = selection_done _ _ c.args.selection.now (held c.fits.ensures c.if-not-fits.false) c.select.ensures

@@ -1,32 +1,28 @@
--- `sens_parameters::some_piecewise` meets its contract: a generator more each turn. Assumes nothing.
-use mathlib.Core.Path.{◌≡◌, sym}
+-- `sens_parameters::some_piecewise` meets its contract. Assumes nothing.
+use mathlib.Core.Path.{◌∙◌}
 use mathlib.Core.Bool.{not}
-use native.Mathlib.Omega.{arith}
-use borrow.Author.Tests.{eq-eqb, ne_eqb}
+use Prim.Native.Nat.{ℕ}
 use lib.Dec.{eqb}
-use lib.ListN.{length, get_or}
-use Rattle.sequence.proofs.Lists.{some_holds}
+use Rattle.std.proofs.Common.{rules, tests}
+use native.Mathlib.Omega.{arith}
+use Rattle.std.proofs.lemmas.Grind.{get_or_default_zero}
+use Rattle.std.proofs.lemmas.Iterator.{YieldsList-from_slice}
+use Rattle.std.proofs.lemmas.Iterator.Adapters.{serves_from_places}
+use Rattle.std.proofs.lemmas.Iterator.Search.{any_from_yields_List}
 use Rattle.network.specs.Layout.{segments_at}
 use Rattle.sens_parameters.specs.Calls.{some_piecewise}
-use Rattle.sens_parameters.proofs.Columns.{some_none, some_more}
+use Rattle.sens_parameters.proofs.Columns.{any_each}
 use Rattle.sens_parameters.proofs.some_piecewise.Goals as goal
 
-pub loop-column-init : goal.loop-column-init
-loop-column-init c = some_none _
-
-pub returns-then-word-ne0 : goal.returns-then-word-ne0
-unfolding some_piecewise
-returns-then-word-ne0 c = let a = c.args in
-    let l = c.loop-column in
-    sym (some_holds (λ i. not (eqb (segments_at a.plan.now.counts a.plan.now.wiring.now (get_or a.columns.now i 0)) 0)) l.column-index (length a.columns.now) c.loop-column-test.true
-    (rw (ne_eqb _ 0 (rw (c.word.ensures.0, c.wide.ensures.0) at c.if-word-ne0.true))))
-
-pub loop-column-preserved : goal.loop-column-preserved
-loop-column-preserved c = let l = c.loop-column in
-    some_more _ l.column-index l.invariant (rw (eq-eqb _ 0 (rw (c.word.ensures.0, c.wide.ensures.0) at c.if-word-ne0.false)))
+pub any-requires-clause-callable : goal.any-requires-clause-callable
+any-requires-clause-callable c =
+    let columns = c.args.columns.now in
+    serves_from_places (YieldsList-from_slice columns cc) (λ x q r. search rules)
+    (λ x k l e lfts ref name same fit wide more. omega (arith, wide.ensures.0, e, get_or_default_zero columns k x.now l, c.requires k l))
 
 pub returns : goal.returns
 unfolding some_piecewise
-returns c = let l = c.loop-column in
-    let e : l.column-index ≡ length c.args.columns.now = omega arith in
-    sym (rw e at l.invariant)
+returns c = let a = c.args in
+    let test = λ (i : ℕ). not (eqb (segments_at a.plan.now.counts a.plan.now.wiring.now i) 0) in
+    any_from_yields_List test _ _ _ c.any.ensures.ran (YieldsList-from_slice a.columns.now cc) (λ x b q k. search (rules, tests))
+    ∙ any_each test a.columns.now 0

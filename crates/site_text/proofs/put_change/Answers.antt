@@ -1,7 +1,6 @@
 -- `site_text::put_change` meets its contract: its first line, and an accepted change's triplets. Assumes nothing.
 use mathlib.Core.Path.{refl, ap}
 use mathlib.Core.List.{List, []}
-use Prim.Native.Nat.{◌/◌, ◌%◌}
 use native.Mathlib.Omega.{arith}
 use lib.Ieee.{of_int, of_bits}
 use Rattle.float64.specs.Values.{whole}
@@ -13,22 +12,22 @@ use Rattle.network.specs.Layout.{counts_of}
 use Rattle.solution.specs.NetworkB.{wiring_b, readings_b}
 use Rattle.kkt.specs.Slots.Rule.{first_place}
 use Rattle.change_table.specs.Table.{named_cells}
-use Rattle.job_book.specs.Book.{change, step}
+use Rattle.job_book.specs.Book.{step}
 use Rattle.site_text.specs.Text.{given_b, words_b, triplet_line, triplets_in}
 use Rattle.site_text.proofs.Answers.{text_refused, TakenB, taken_b, text_taken}
 use Rattle.site_text.proofs.put_change.Goals as goal
 use Rattle.site_text.proofs.put_change.Goals.{In-Ok}
 
 -- what the accepted change says
-accepted : (c : In-Ok) → TakenB (change c.args.head c.args.low c.args.high) c.change_b-answer.new.rows c.change_b-answer.new.cols c.change_b-answer.new.values c.in-Ok.count
+accepted : (c : In-Ok) → TakenB c.args.asked c.change_b-answer.new.rows c.change_b-answer.new.cols c.change_b-answer.new.values c.in-Ok.count
 unfolding made whole of_int of_bits
 accepted c = taken_b _ _ _ _ c.in-Ok.ensures.answered refl
 
-pub put_named_b-requires-clause-head_value : goal.put_named_b-requires-clause-head_value
-put_named_b-requires-clause-head_value c = (accepted (goal.at.put_named_b-requires-clause-head_value c).In-Ok).kind
+pub put_named_b-requires-clause-kind : goal.put_named_b-requires-clause-kind
+put_named_b-requires-clause-kind c = (accepted (goal.at.put_named_b-requires-clause-kind c).In-Ok).kind
 
-pub put_named_b-requires-clause-head_bound : goal.put_named_b-requires-clause-head_bound
-put_named_b-requires-clause-head_bound c = (accepted (goal.at.put_named_b-requires-clause-head_bound c).In-Ok).index
+pub put_named_b-requires-clause-index : goal.put_named_b-requires-clause-index
+put_named_b-requires-clause-index c = (accepted (goal.at.put_named_b-requires-clause-index c).In-Ok).index
 
 pub put_named_b-requires-clause-count_in_bounds : goal.put_named_b-requires-clause-count_in_bounds
 put_named_b-requires-clause-count_in_bounds c = let f = (accepted (goal.at.put_named_b-requires-clause-count_in_bounds c).In-Ok).few in (omega (arith, f, c.change_b-answer.auto), omega (arith, f, c.change_b-answer.auto), omega (arith, f, c.change_b-answer.auto))
@@ -40,8 +39,8 @@ pub returns-in-Ok-clause-wrote : goal.returns-in-Ok-clause-wrote
 unfolding made whole of_int of_bits
 returns-in-Ok-clause-wrote c = let a = c.args in
     let t = accepted (goal.at.returns-in-Ok-clause-wrote c).In-Ok in
-    text_taken (step given_b first_place (λ W h. []) words_b (change a.head a.low a.high)) (change a.head a.low a.high) c.in-Ok.ensures.answered refl
-    (ap (λ (ts : List Triplet). joined triplet_line (triplets_in (named_cells (counts_of wiring_b) wiring_b readings_b (a.head / 0x1000_0000) (a.head % 0x1000_0000)) ts)) t.list)
+    text_taken (step given_b first_place (λ W h. []) words_b a.asked) a.asked c.in-Ok.ensures.answered refl
+    (ap (λ (ts : List Triplet). joined triplet_line (triplets_in (named_cells (counts_of wiring_b) wiring_b readings_b a.asked.kind a.asked.index) ts)) t.list)
     (rw c.in-Ok.is at c.put_first_line.ensures.wrote) c.put_named_b.ensures.wrote
 
 pub returns-in-Ok-clause-most : goal.returns-in-Ok-clause-most
@@ -50,4 +49,4 @@ returns-in-Ok-clause-most c = let f = (accepted (goal.at.returns-in-Ok-clause-mo
 pub returns-in_default-clause-wrote : goal.returns-in_default-clause-wrote
 unfolding made whole of_int of_bits
 returns-in_default-clause-wrote c = let a = c.args in
-    text_refused (step given_b first_place (λ W h. []) words_b (change a.head a.low a.high)) (change a.head a.low a.high) c.in_default.ensures.answered (refused _) (rw c.in_default.is at c.put_first_line.ensures.wrote)
+    text_refused (step given_b first_place (λ W h. []) words_b a.asked) a.asked c.in_default.ensures.answered (refused _) (rw c.in_default.is at c.put_first_line.ensures.wrote)

@@ -8,7 +8,7 @@ use Rattle.site_text.proofs.put_named.Goals as goal
 use Rattle.site_text.proofs.put_named.Goals.{then-is_named, else-is_named}
 
 pub loop-t-init : goal.loop-t-init
-loop-t-init c = let a = c.args in (begin (cells_at (start_in a.places.now.index) (cells_of a.places.now.counts a.places.now.wiring.now a.f a.i)) a.rows.now a.cols.now a.values.now a.text.now, omega arith)
+loop-t-init c = let a = c.args in (begin (cells_at (start_in a.places.now.index) (cells_of a.places.now.wiring.counts a.places.now.wiring.words.now a.f a.i)) a.rows.now a.cols.now a.values.now a.text.now, omega arith)
 
 pub loop-t-preserved : goal.loop-t-preserved
 loop-t-preserved c = let a = c.args in
@@ -17,11 +17,11 @@ loop-t-preserved c = let a = c.args in
     let i = c.loop-t.invariant in
     elim c.if-is_named.branch [
       | then-is_named w ↦ rw w.text-is (
-        named_turn (cells_at (start_in a.places.now.index) (cells_of a.places.now.counts a.places.now.wiring.now a.f a.i)) a.rows.now a.cols.now a.values.now c.loop-t.t (omega (arith, few, l)) (omega (arith, few, l)) (omega (arith, few, l)) i.0 (sym w.if-is_named.true ∙ c.is_named.ensures) w.put_triplet_line.ensures.wrote,
+        named_turn (cells_at (start_in a.places.now.index) (cells_of a.places.now.wiring.counts a.places.now.wiring.words.now a.f a.i)) a.rows.now a.cols.now a.values.now c.loop-t.t (omega (arith, few, l)) (omega (arith, few, l)) (omega (arith, few, l)) i.0 (sym w.if-is_named.true ∙ c.is_named.ensures) w.put_triplet_line.ensures.wrote,
         omega (arith, i.1, w.put_triplet_line.ensures.most),
       )
       | else-is_named w ↦ rw w.text-is (
-        other_turn (cells_at (start_in a.places.now.index) (cells_of a.places.now.counts a.places.now.wiring.now a.f a.i)) a.rows.now a.cols.now a.values.now c.loop-t.t (omega (arith, few, l)) (omega (arith, few, l)) (omega (arith, few, l)) i.0 (sym w.if-is_named.false ∙ c.is_named.ensures) refl,
+        other_turn (cells_at (start_in a.places.now.index) (cells_of a.places.now.wiring.counts a.places.now.wiring.words.now a.f a.i)) a.rows.now a.cols.now a.values.now c.loop-t.t (omega (arith, few, l)) (omega (arith, few, l)) (omega (arith, few, l)) i.0 (sym w.if-is_named.false ∙ c.is_named.ensures) refl,
         omega (arith, i.1),
       )
     ]

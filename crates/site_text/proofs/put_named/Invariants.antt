@@ -7,5 +7,5 @@ use Rattle.site_text.proofs.Named.{lines_of}
 use Rattle.site_text.proofs.put_named.Given as goal
 
 abbrev pub invariant-loop-t : goal.invariant-loop-t
-invariant-loop-t l = Adds (lines_of (cells_at (start_in l.places.index) (cells_of l.places.counts l.places.wiring.now l.f l.i)) l.rows l.cols l.values l.t) l.initial.text l.text
+invariant-loop-t l = Adds (lines_of (cells_at (start_in l.places.index) (cells_of l.places.wiring.counts l.places.wiring.words.now l.f l.i)) l.rows l.cols l.values l.t) l.initial.text l.text
     × (l.text.len ≤ l.initial.text.len + 59 * l.t)

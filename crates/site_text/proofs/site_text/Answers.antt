@@ -8,4 +8,4 @@ pub returns-then-input-ne12-clause-out_after : goal.returns-then-input-ne12-clau
 returns-then-input-ne12-clause-out_after c = c.put_first_line.ensures.wrote.text ∙ printed_other c.args.input.now (λ e. omega (arith, e, c.if-input-ne12.true))
 
 pub returns-clause-out_after : goal.returns-clause-out_after
-returns-clause-out_after c = c.put_change.ensures.wrote.text ∙ printed_change c.args.input.now (omega (arith, c.if-input-ne12.false)) c.word32-head.ensures c.word32-low.ensures c.word32-high.ensures
+returns-clause-out_after c = c.put_change.ensures.wrote.text ∙ printed_change c.args.input.now (omega (arith, c.if-input-ne12.false)) c.of.ensures c.word32-head.ensures c.word32-low.ensures c.word32-high.ensures

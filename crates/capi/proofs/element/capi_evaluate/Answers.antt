@@ -14,9 +14,9 @@ pub returns-in_default : goal.returns-in_default
 returns-in_default c = let a = c.args in
     rw c.pack.ensures (element_one _ _ _ _ _ _ (doubles_of a.sheet.now) _ _ (unsized_flows _ _ a.f.now a.pg.now c.in_default.ensures.fits))
 
-pub returns-in_default-take_doubles : goal.returns-in_default-take_doubles
-returns-in_default-take_doubles c = let a = c.args in
-    rw c.pack-in_default-take_doubles.ensures (element_one _ _ _ _ _ _ (doubles_of a.sheet.now) _ _ (unsized_powers _ _ a.f.now a.pg.now c.in_default-take_doubles.ensures.fits))
+pub returns-in_default-take : goal.returns-in_default-take
+returns-in_default-take c = let a = c.args in
+    rw c.pack-in_default-take.ensures (element_one _ _ _ _ _ _ (doubles_of a.sheet.now) _ _ (unsized_powers _ _ a.f.now a.pg.now c.in_default-take.ensures.fits))
 
 pub fill_sheet-requires-clause-call : goal.fill_sheet-requires-clause-call
 fill_sheet-requires-clause-call c =
@@ -30,7 +30,7 @@ fill_sheet-requires-clause-call c =
 pub returns : goal.returns
 returns c = let a = c.args in
     let f = c.in-Some.ensures in
-    let p = c.in-Some-take_doubles.ensures in
+    let p = c.in-Some-take.ensures in
     exported _ (λ (N : Network). evaluate_call N c.args.row (doubles_of c.args.f.now) (doubles_of c.args.pg.now))
     (λ h. element_one _ _ _ _ _ _ _ _ _ (unsized_network _ _ a.f.now a.pg.now h))
     (λ o. wholly (decoded a.wiring a.readings a.term_index a.term_coefficient) _ a.f.now a.pg.now o f.fits p.fits)

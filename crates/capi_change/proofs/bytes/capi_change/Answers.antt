@@ -18,16 +18,16 @@ returns-in_default c = let a = c.args in
     let w = wholes a.wiring.now a.readings.now a.term_index.now a.term_coefficient.now in
     rw c.pack.ensures (change_one g first_place u.readings (change a.head a.low a.high) u refl _ _ _ _ _ (unsized_beside n w a.solution.now _ c.in_default.ensures.refused))
 
-pub returns-in_default-take_doubles : goal.returns-in_default-take_doubles
-returns-in_default-take_doubles c = let a = c.args in
+pub returns-in_default-take : goal.returns-in_default-take
+returns-in_default-take c = let a = c.args in
     let g = given (words_of a.wiring.now) (words_of a.term_index.now) (doubles_of a.term_coefficient.now) (doubles_of a.solution.now) in
     let u = words (doubles_of a.readings.now) (words_of a.rows.now) (words_of a.cols.now) (doubles_of a.values.now) in
     let n = network a.wiring.now a.readings.now a.term_index.now a.term_coefficient.now in
     let w = wholes a.wiring.now a.readings.now a.term_index.now a.term_coefficient.now in
-    rw c.pack-in_default-take_doubles.ensures
-    (change_one g first_place u.readings (change a.head a.low a.high) u refl _ _ _ _ _ (unsized_own n w a.solution.now _ (long_few n (doubles_of a.solution.now)) c.in_default-take_doubles.ensures.fits))
+    rw c.pack-in_default-take.ensures
+    (change_one g first_place u.readings (change a.head a.low a.high) u refl _ _ _ _ _ (unsized_own n w a.solution.now _ (long_few n (doubles_of a.solution.now)) c.in_default-take.ensures.fits))
 
 pub change_out-requires-clause-readings_value : goal.change_out-requires-clause-readings_value
 change_out-requires-clause-readings_value c = let a = c.args in
     let h = c.in-Some.ensures.decoded in
-    read_whole a.wiring.now a.readings.now a.term_index.now a.term_coefficient.now h.0 (ap (λ (N : Network). N.readings) h.1.network)
+    read_whole a.wiring.now a.readings.now a.term_index.now a.term_coefficient.now h.0 (ap (λ (N : Network). N.readings) h.1)

@@ -1,12 +1,11 @@
 -- `capi_contraction::calls::capi_contraction_third` meets its contract: refused at once, or the call on what was decoded. Assumes nothing.
 use mathlib.Core.Path.{sym, ◌∙◌}
 use mathlib.Core.Bool.{Bool, ◌&&◌}
-use mathlib.Core.List.{List, [], ◌∷◌}
-use Prim.Native.Nat.{ℕ}
+use mathlib.Core.List.{List}
 use lib.Ieee.{Float}
 use Rattle.words.specs.Words.{doubles_of}
 use Rattle.network.specs.Numbers.{Network}
-use Rattle.contraction.specs.Contraction.{selector}
+use Rattle.contraction.specs.Contraction.{Selector}
 use Rattle.sens.specs.Calls.{third_call}
 use Rattle.decoding.specs.Exports.{all_whole, filled_out}
 use Rattle.decoding.specs.Decoding.{fits}
@@ -19,21 +18,17 @@ use Rattle.capi_contraction.proofs.calls.capi_contraction_third.Goals as goal
 pub returns-in_default : goal.returns-in_default
 returns-in_default c = rw c.pack.ensures (third_one _ _ _ _ _ (doubles_of c.args.sheet.now) _ _ (missed (entries_fit c.args.rows.now c.args.weights.now && sheets_fit c.args.parameter.now c.args.solved.now) c.in_default.ensures))
 
-pub returns-in_default-take_words : goal.returns-in_default-take_words
-returns-in_default-take_words c = let a = c.args in
-    rw c.pack-in_default-take_words.ensures (unfit _ _ a.sheet.now (right_out (all_whole a.wiring a.readings a.term_index a.term_coefficient) (left_out (sheets_fit a.parameter.now a.solved.now) (left_out (fits 8 a.weights.now 6544) (sym c.in_default-take_words.ensures.fits)))))
+pub returns-in_default-selector : goal.returns-in_default-selector
+returns-in_default-selector c = let a = c.args in
+    rw c.pack-in_default-selector.ensures (unfit _ _ a.sheet.now (right_out (all_whole a.wiring a.readings a.term_index a.term_coefficient) (left_out (sheets_fit a.parameter.now a.solved.now) (sym c.in_default-selector.ensures.fit))))
 
-pub returns-in_default-take_doubles : goal.returns-in_default-take_doubles
-returns-in_default-take_doubles c = let a = c.args in
-    rw c.pack-in_default-take_doubles.ensures (unfit _ _ a.sheet.now (right_out (all_whole a.wiring a.readings a.term_index a.term_coefficient) (left_out (sheets_fit a.parameter.now a.solved.now) (right_out (fits 4 a.rows.now 6544) (sym c.in_default-take_doubles.ensures.fits)))))
+pub returns-in_default-take : goal.returns-in_default-take
+returns-in_default-take c = let a = c.args in
+    rw c.pack-in_default-take.ensures (unfit _ _ a.sheet.now (right_out (all_whole a.wiring a.readings a.term_index a.term_coefficient) (right_out (entries_fit a.rows.now a.weights.now) (left_out (fits 8 a.solved.now 6544) (sym c.in_default-take.ensures.fits)))))
 
-pub returns-in_default-take_doubles-2 : goal.returns-in_default-take_doubles-2
-returns-in_default-take_doubles-2 c = let a = c.args in
-    rw c.pack-in_default-take_doubles-2.ensures (unfit _ _ a.sheet.now (right_out (all_whole a.wiring a.readings a.term_index a.term_coefficient) (right_out (entries_fit a.rows.now a.weights.now) (left_out (fits 8 a.solved.now 6544) (sym c.in_default-take_doubles-2.ensures.fits)))))
-
-pub returns-in_default-take_doubles-3 : goal.returns-in_default-take_doubles-3
-returns-in_default-take_doubles-3 c = let a = c.args in
-    rw c.pack-in_default-take_doubles-3.ensures (unfit _ _ a.sheet.now (right_out (all_whole a.wiring a.readings a.term_index a.term_coefficient) (right_out (entries_fit a.rows.now a.weights.now) (right_out (fits 8 a.parameter.now 6544) (sym c.in_default-take_doubles-3.ensures.fits)))))
+pub returns-in_default-take-2 : goal.returns-in_default-take-2
+returns-in_default-take-2 c = let a = c.args in
+    rw c.pack-in_default-take-2.ensures (unfit _ _ a.sheet.now (right_out (all_whole a.wiring a.readings a.term_index a.term_coefficient) (right_out (entries_fit a.rows.now a.weights.now) (right_out (fits 8 a.parameter.now 6544) (sym c.in_default-take-2.ensures.fits)))))
 
 pub third_out-requires-clause-cells : goal.third_out-requires-clause-cells
 third_out-requires-clause-cells c = let n = c.cells_for-n.ensures in cut_cells _ n.below n
@@ -41,9 +36,8 @@ third_out-requires-clause-cells c = let n = c.cells_for-n.ensures in cut_cells _
 pub returns : goal.returns
 returns c = let a = c.args in
     let h = c.in-Some.ensures.decoded in
-    let p = c.in-Some-take_words.ensures in
-    let q = c.in-Some-take_doubles.ensures in
-    let x = c.in-Some-take_doubles-2.ensures in
-    let y = c.in-Some-take_doubles-3.ensures in
+    let p = c.in-Some-selector.ensures in
+    let x = c.in-Some-take.ensures in
+    let y = c.in-Some-take-2.ensures in
     let m = c.mode_asked.result in
-    rw (← c.mode_asked.ensures) (c.third_out.ensures ∙ told_sheets (λ (b : Bool) (N : Network) (r : List ℕ) (w u v : List Float). filled_out b (third_call N m (selector a.sign (a.entries ∷ []) r w) 1 u v (doubles_of a.sheet.now)) a.sheet.now) (beside h.0 (beside (beside (sym p.fits) (sym q.fits)) (beside (sym x.fits) (sym y.fits)))) h.1 p.held.front q.held.front x.held.front y.held.front)
+    rw (← c.mode_asked.ensures) (c.third_out.ensures ∙ told_sheets (λ (b : Bool) (N : Network) (S : Selector) (u v : List Float). filled_out b (third_call N m S 1 u v (doubles_of a.sheet.now)) a.sheet.now) (beside h.0 (beside (sym p.fit) (beside (sym x.fits) (sym y.fits)))) h.1 p.read x.held y.held)

@@ -15,9 +15,9 @@ pub returns-in_default : goal.returns-in_default
 returns-in_default c = let a = c.args in
     rw c.pack.ensures (read_one _ _ _ _ (doubles_of a.sheet.now) _ _ (unsized_primal _ _ a.x.now a.z.now c.in_default.ensures.fits))
 
-pub returns-in_default-take_doubles : goal.returns-in_default-take_doubles
-returns-in_default-take_doubles c = let a = c.args in
-    rw c.pack-in_default-take_doubles.ensures (read_one _ _ _ _ (doubles_of a.sheet.now) _ _ (unsized_dual _ _ a.x.now a.z.now c.in_default-take_doubles.ensures.fits))
+pub returns-in_default-take : goal.returns-in_default-take
+returns-in_default-take c = let a = c.args in
+    rw c.pack-in_default-take.ensures (read_one _ _ _ _ (doubles_of a.sheet.now) _ _ (unsized_dual _ _ a.x.now a.z.now c.in_default-take.ensures.fits))
 
 pub fill_sheet-requires-clause-call : goal.fill_sheet-requires-clause-call
 fill_sheet-requires-clause-call c =
@@ -31,7 +31,7 @@ fill_sheet-requires-clause-call c =
 pub returns : goal.returns
 returns c = let a = c.args in
     let x = c.in-Some.ensures in
-    let z = c.in-Some-take_doubles.ensures in
+    let z = c.in-Some-take.ensures in
     exported _ (λ (N : Network). read_call N (doubles_of a.x.now) (doubles_of a.z.now) (of_bits binary64 a.objective))
     (λ h. read_one _ _ _ _ _ _ _ (unsized_raw _ _ a.x.now a.z.now h))
     (λ o. wholly_raw (decoded a.wiring a.readings a.term_index a.term_coefficient) _ a.x.now a.z.now o x.fits z.fits)

@@ -1,15 +1,36 @@
 -- `capi_sens::matrix::capi_kkt_triplets` meets its contract: refused at once, or the call on what was decoded. Assumes nothing.
+use Rattle.std.proofs.Common.{rules, ◌≡◌, []}
+use Rattle.sequence.specs.Sheets.{listed}
 use Rattle.words.specs.Words.{words_of, doubles_of}
+use Rattle.network.specs.Numbers.{Network}
+use Rattle.network.specs.Sites.{network_in}
 use Rattle.kkt.specs.Slots.Rule.{first_place}
-use Rattle.decoding.proofs.Answered.{unsized_beside}
+use Rattle.sens_dc.specs.Calls.{matrix_call}
+use Rattle.decoding.proofs.Answered.{unsized_beside, wholly_own}
+use Rattle.decoding.proofs.ListFilled.{list_exported}
 use Rattle.capi_sens.proofs.Solved.{unread_solution}
-use Rattle.capi_sens.proofs.Laid.{matrix_one}
+use Rattle.capi_sens.proofs.Laid.{matrix_one, matrix_answer, matrix_count}
 use Rattle.capi_sens.proofs.matrix.capi_kkt_triplets.Goals as goal
 
 pub returns-in_default : goal.returns-in_default
 returns-in_default c = let a = c.args in
-    rw c.pack.ensures (matrix_one first_place _ _ (words_of a.rows.now) (words_of a.cols.now) (doubles_of a.values.now) _ _ _ _ (unsized_beside _ _ a.solution.now _ c.in_default.ensures.refused))
+    rw c.pack.ensures (matrix_one first_place _ _ (words_of a.rows.now) (words_of a.cols.now) (doubles_of a.values.now) _ _ _ _ (unread_solution a.wiring.now a.readings.now a.term_index.now a.term_coefficient.now a.solution.now c.in_default.ensures.fits))
 
-pub returns-in_default-take_doubles : goal.returns-in_default-take_doubles
-returns-in_default-take_doubles c = let a = c.args in
-    rw c.pack-in_default-take_doubles.ensures (matrix_one first_place _ _ (words_of a.rows.now) (words_of a.cols.now) (doubles_of a.values.now) _ _ _ _ (unread_solution a.wiring.now a.readings.now a.term_index.now a.term_coefficient.now a.solution.now c.in_default-take_doubles.ensures.fits))
+pub fill_list-requires-clause-call : goal.fill_list-requires-clause-call
+fill_list-requires-clause-call c = let a = c.args in
+    record {
+      may = λ l x y z h. tt;
+      within = λ l x y z n x' y' z' h p.
+          let e : listed n x'.now y'.now z'.now ≡ matrix_call first_place [] (network_in l) (doubles_of a.solution.now) x.now y.now z.now = search rules in
+          matrix_count _ _ _ a.rows.now a.cols.now a.values.now x.now y.now z.now h e;
+    }
+
+pub returns : goal.returns
+returns c = let a = c.args in
+    list_exported _ (λ (N : Network). matrix_call first_place [] N (doubles_of a.solution.now))
+    (λ h. matrix_one first_place _ _ (words_of a.rows.now) (words_of a.cols.now) (doubles_of a.values.now) _ _ _ _ (unsized_beside _ _ a.solution.now _ h))
+    (λ o. wholly_own a.solution.now 6017 o c.in-Some.ensures.fits)
+    (λ l x y z n x' y' z' h p.
+    let e : listed n x'.now y'.now z'.now ≡ matrix_call first_place [] (network_in l) (doubles_of a.solution.now) x.now y.now z.now = search rules in
+    matrix_answer _ _ _ a.rows.now a.cols.now a.values.now x.now y.now z.now h e)
+    c.fill_list.ensures

@@ -1,7 +1,19 @@
 -- `decoding::fill::fill_from_solution` meets its contract: refused at once, or the call at what was decoded. Assumes nothing.
-use Rattle.std.proofs.Common.{rules}
+use Rattle.std.proofs.Common.{rules, sym}
+use denote.MutBor.{as_bor}
+use Rattle.decoding.specs.Filling.{unread, read}
+use Rattle.decoding.proofs.Filled.{exported_anew}
 use Rattle.decoding.proofs.fill.fill_from_solution.Goals as goal
 
-pub answered-requires : goal.answered-requires
-answered-requires g c =
-    let l = c.requires.call.within _ _ _ _ (search rules) (_, c.in-Some.ensures.held.front, c.call-answer.ensures) in search rules
+pub returns-in_default : goal.returns-in_default
+returns-in_default g c = unread (sym c.in_default.ensures.fits) (search rules)
+
+pub fill_sheet-requires-clause-call : goal.fill_sheet-requires-clause-call
+fill_sheet-requires-clause-call g c =
+    record {
+      may = λ l x r d e. c.requires.call.may l d (rw e r) (as_bor c.in-Some.solved) c.in-Some.ensures.held;
+      within = λ l x a y r p. let q = p.1 in rw q.2 at (c.requires.call.within l q.0 a q.1 (rw q.2 r) (as_bor c.in-Some.solved, c.in-Some.ensures.held, q.4));
+    }
+
+pub returns : goal.returns
+returns g c = read (sym c.in-Some.ensures.fits) (exported_anew (λ l x a y p. let q = p.1 in (q.0, q.1, q.2, q.3, (as_bor c.in-Some.solved, c.in-Some.ensures.held, q.4))) c.fill_sheet.ensures)

@@ -1,22 +1,18 @@
--- `model::cost::segment_start` meets its contract. The loop's invariant: the first i generators' segments are counted. Assumes nothing.
-use mathlib.Core.Path.{◌≡◌}
-use native.Mathlib.Omega.{arith}
-use Rattle.model.proofs.Runs.{segments_none, segments_more, segments_within, segments_inside}
+-- `model::cost::segment_start` meets its contract: the iterator sums the segments of the generators before. Assumes nothing.
+use Rattle.std.proofs.Common.{rules, ◌≡◌, arith}
+use Rattle.sequence.proofs.Sums.{range_sum, range_fits}
+use Rattle.network.specs.Layout.{segments_at, segment_start}
+use Rattle.model.proofs.Runs.{segments_within}
 use Rattle.model.proofs.cost.segment_start.Goals as goal
 
-pub loop-i-init : goal.loop-i-init
-loop-i-init c = (segments_none _ _, omega arith)
-
-pub word-at-requires-clause-wiring_laid : goal.word-at-requires-clause-wiring_laid
-word-at-requires-clause-wiring_laid c = c.requires.wired.laid
-
-pub overflow_add-at : goal.overflow_add-at
-overflow_add-at c = omega (arith, segments_inside c.requires.wired c.loop-i.i (omega arith), c.word-at.ensures.0)
-
-pub loop-i-preserved : goal.loop-i-preserved
-loop-i-preserved c = (rw segments_more (omega (arith, c.word-at.ensures.0)), omega arith)
+pub sum-requires-clause-fits : goal.sum-requires-clause-fits
+unfolding segment_start
+sum-requires-clause-fits c = let a = c.args in
+    range_fits _ (segments_at a.c a.wiring.now) a.j c.map.ensures.source c.map.ensures.closure (λ x r q k. search rules) _
+    (omega (arith, segments_within c.requires.wired a.j c.requires.j_le_generators, c.requires.wired.laid.few))
 
 pub returns : goal.returns
-returns c = let e : c.loop-i.i ≡ c.args.j = omega arith in
-    let r = rw e at c.loop-i.invariant.0 in
-    (r, omega (arith, r, segments_within c.requires.wired c.args.j c.requires.j_le_generators))
+unfolding segment_start
+returns c = let a = c.args in
+    let e : c.sum.result ≡ segment_start a.c a.wiring.now a.j = range_sum _ (segments_at a.c a.wiring.now) _ c.map.ensures.source c.map.ensures.closure (λ x r q k. search rules) _ c.sum.ensures.ran in
+    (e, omega (arith, e, segments_within c.requires.wired a.j c.requires.j_le_generators))

@@ -8,15 +8,16 @@ use Rattle.network.specs.declared.Counts.{Counts}
 use Rattle.sens_snap.proofs.Returns.{sheet_refused, sheet_short, sheet_done}
 use Rattle.sens_snap.proofs.calls.nu_flow_values.Goals as goal
 
-pub returns-in_err-site : goal.returns-in_err-site
-returns-in_err-site c = let e : c.from_residual.result ≡ Err c.in_err-site.field-0.0 = grind arith in
-    rw e (sheet_refused _ _ _ _ c.in_err-site.ensures.number (refused c.in_err-site.field-0.0))
+pub returns-in_err-solved : goal.returns-in_err-solved
+returns-in_err-solved c = let e : c.from_residual.result ≡ Err c.in_err-solved.field-0.0 = grind arith in
+    rw e (sheet_refused _ _ _ _ c.in_err-solved.ensures.number (refused c.in_err-solved.field-0.0))
 
 pub returns-then-out-count : goal.returns-then-out-count
-returns-then-out-count c = let a = c.in_ok-site.ensures in
+returns-then-out-count c = let a = c.in_ok-solved.ensures in
     sheet_short _ _ _ _ a.number refl (made_length _ _ ∙ sym (ap (λ (k : Counts). k.branches) a.accepted.counts)) c.if-out-count.true
 
 pub returns : goal.returns
-returns c = let a = c.in_ok-site.ensures in
+returns c = let a = c.in_ok-solved.ensures in
+    let o = c.point_of-point.ensures in
     sheet_done _ _ _ _ a.number refl (made_length _ _ ∙ sym (ap (λ (k : Counts). k.branches) a.accepted.counts)) c.if-out-count.false
-    (rw (c.piece_count-pieces.ensures.0, a.accepted.counts, a.accepted.wiring, a.accepted.readings, a.accepted.term_index, a.accepted.term_coefficient) at c.nu_flow_into.ensures.out_after)
+    (rw (o.pieces, o.grid, o.sheet, o.term_index, o.term_coefficient, a.accepted.counts, a.accepted.wiring, a.accepted.readings, a.accepted.term_index, a.accepted.term_coefficient, a.lent_sheet) at c.nu_flow_into.ensures.out_after)

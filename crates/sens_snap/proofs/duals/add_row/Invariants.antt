@@ -8,12 +8,12 @@ use Rattle.sens_snap.proofs.Turns.{term_turn}
 use Rattle.sens_snap.proofs.duals.add_row.Given as goal
 
 abbrev pub invariant-loop-t : goal.invariant-loop-t
-invariant-loop-t l = ((e : ℕ) → get_or l.out e nan ≡ turns (term_turn l.term_index l.term_coefficient l.start l.dual e) (get_or l.initial.out e nan) l.t)
+invariant-loop-t l = ((e : ℕ) → get_or l.out e nan ≡ turns (term_turn l.site.term_index.now l.site.term_coefficient.now l.start l.dual e) (get_or l.initial.out e nan) l.t)
     × (length l.out ≡ length l.initial.out)
     × (l.t ≤ l.count)
-    × (l.start + l.count ≤ length l.term_index)
-    × (l.start + l.count ≤ length l.term_coefficient)
-    × ((t : ℕ) → t < l.count → get_or l.term_index (l.start + t) 0 < length l.initial.out)
+    × (l.start + l.count ≤ length l.site.term_index.now)
+    × (l.start + l.count ≤ length l.site.term_coefficient.now)
+    × ((t : ℕ) → t < l.count → get_or l.site.term_index.now (l.start + t) 0 < length l.initial.out)
 
 abbrev pub decreases-loop-t : goal.decreases-loop-t
 decreases-loop-t l = l.count - l.t

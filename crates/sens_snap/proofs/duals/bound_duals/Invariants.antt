@@ -1,6 +1,4 @@
 -- `sens_snap::duals::bound_duals` meets its contract, branch by branch. Assumes nothing.
-use Prim.Native.Nat.{◌-◌, ◌≤◌}
-use mathlib.Core.Path.{◌≡◌}
 use lib.Ieee.{binary64, sub}
 use Rattle.sequence.proofs.Fronts.{Fronted}
 use Rattle.solution.specs.declared.Entry.TheVariants.{LamUb, LamLb}
@@ -8,7 +6,4 @@ use Rattle.solution.specs.Sheet.{solved}
 use Rattle.sens_snap.proofs.duals.bound_duals.Given as goal
 
 abbrev pub invariant-loop-e : goal.invariant-loop-e
-invariant-loop-e l = Fronted (λ e. sub binary64 (solved l.point.grid.plan.counts l.point.pieces l.point.sheet.now LamUb e) (solved l.point.grid.plan.counts l.point.pieces l.point.sheet.now LamLb e)) l.e l.initial.out l.out × (l.e ≤ l.to) × (l.to ≡ l.point.grid.plan.counts.branches)
-
-abbrev pub decreases-loop-e : goal.decreases-loop-e
-decreases-loop-e l = l.to - l.e
+invariant-loop-e l = Fronted (λ e. sub binary64 (solved l.point.grid.plan.counts l.point.pieces l.point.sheet.now LamUb e) (solved l.point.grid.plan.counts l.point.pieces l.point.sheet.now LamLb e)) l.e l.initial.out l.out

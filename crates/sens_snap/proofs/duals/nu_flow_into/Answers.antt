@@ -6,18 +6,19 @@ use Rattle.sequence.proofs.Lists.{turns_none, turns_more}
 use Rattle.sequence.proofs.Fronts.{front_made, front_at, over}
 use Rattle.model.proofs.Runs.{terms_none, terms_more, terms_inside}
 use Rattle.snapping.specs.Snap.{nu_flow}
+use Rattle.sens_snap.proofs.Stores.{front_back}
 use Rattle.sens_snap.proofs.duals.nu_flow_into.Goals as goal
 
 pub loop-q-init : goal.loop-q-init
-loop-q-init c = let p = c.bound_duals.ensures.out_after in
-    ((λ e h. rw p (front_at _ _ _ e nan h ∙ turns_none _ _)), (λ e h. refl), refl, omega arith, refl, terms_none _ _)
+loop-q-init c = let p = front_back c.requires c.bound_duals.ensures in
+    ((λ e h. rw p.is (front_at _ _ _ e nan h ∙ turns_none _ _)), (λ e h. refl), refl, omega arith, refl, terms_none _ _)
 
-pub add_row-requires-clause-q_lt_rows : goal.add_row-requires-clause-q_lt_rows
-add_row-requires-clause-q_lt_rows c = let i = c.loop-q.invariant in (omega arith, i.5, omega (arith, i.2, c.bound_duals.ensures.out_len_unchanged, c.requires.branches_in_bounds))
+pub add_row-requires : goal.add_row-requires
+add_row-requires c = let i = c.loop-q.invariant in (omega arith, i.5, omega (arith, i.2, (front_back c.requires c.bound_duals.ensures).kept, c.requires))
 
 pub overflow_add-start : goal.overflow_add-start
 overflow_add-start c = let l = c.loop-q in
-    omega (arith, terms_inside c.args.point.now.grid.wired l.q (omega arith), c.args.point.now.grid.wired.laid.few)
+    omega (arith, terms_inside c.args.site.now.point.grid.wired l.q (omega arith), c.args.site.now.point.grid.wired.laid.few)
 
 pub loop-q-preserved : goal.loop-q-preserved
 loop-q-preserved c = let a = c.add_row.ensures in
@@ -34,17 +35,17 @@ loop-q-preserved c = let a = c.add_row.ensures in
 pub returns-clause-out_after : goal.returns-clause-out_after
 unfolding nu_flow
 returns-clause-out_after c = let l = c.loop-q in
-    let e : l.q ≡ c.args.point.now.grid.plan.counts.rows = omega arith in
-    let b = c.bound_duals.ensures in
+    let e : l.q ≡ c.args.site.now.point.grid.plan.counts.rows = omega arith in
+    let b = front_back c.requires c.bound_duals.ensures in
     let p =
-    over (record { is = b.out_after; kept = b.out_len_unchanged })
+    over b
     (record { is = front_made _ _ nan _ _ l.invariant.2 (omega arith) (rw e at l.invariant.0) l.invariant.1; kept = l.invariant.2 }) in p.is
 
 pub returns-clause-out_len_unchanged : goal.returns-clause-out_len_unchanged
 unfolding nu_flow
 returns-clause-out_len_unchanged c = let l = c.loop-q in
-    let e : l.q ≡ c.args.point.now.grid.plan.counts.rows = omega arith in
-    let b = c.bound_duals.ensures in
+    let e : l.q ≡ c.args.site.now.point.grid.plan.counts.rows = omega arith in
+    let b = front_back c.requires c.bound_duals.ensures in
     let p =
-    over (record { is = b.out_after; kept = b.out_len_unchanged })
+    over b
     (record { is = front_made _ _ nan _ _ l.invariant.2 (omega arith) (rw e at l.invariant.0) l.invariant.1; kept = l.invariant.2 }) in p.kept

@@ -20,7 +20,7 @@ inside : {q to rows n m : ℕ} (a : ℕ) → q < to → to ≡ rows → 3 * rows
 inside a h e k l b = omega arith
 
 pub loop-q-init : goal.loop-q-init
-loop-q-init c = (no_run _ _ _, omega arith, refl, omega (arith, c.args.point.now.grid.plan.readings_laid.few))
+loop-q-init c = (no_run _ _ _, omega arith, refl, omega (arith, c.args.site.now.point.grid.plan.readings_laid.few))
 
 pub loop-q-preserved : goal.loop-q-preserved
 unfolding dual_words
@@ -31,10 +31,10 @@ loop-q-preserved c = let l = c.loop-q in
 
 pub returns-clause-out_after : goal.returns-clause-out_after
 returns-clause-out_after c = let l = c.loop-q in
-    let e : l.q ≡ c.args.point.now.grid.plan.counts.rows = omega arith in
+    let e : l.q ≡ c.args.site.now.point.grid.plan.counts.rows = omega arith in
     let r = rw e at l.invariant.0 in
-    let d = dual_long c.args.point.now.grid.plan.counts c.args.point.now.grid.plan.wiring.now c.args.term_index.now c.args.term_coefficient.now c.args.point.now.pieces c.args.point.now.grid.plan.readings.now c.args.point.now.sheet.now in r.is ∙ fronted _ _ (omega (arith, d))
+    let d = dual_long c.args.site.now.point.grid.plan.counts c.args.site.now.point.grid.plan.wiring.now c.args.site.now.term_index.now c.args.site.now.term_coefficient.now c.args.site.now.point.pieces c.args.site.now.point.grid.plan.readings.now c.args.site.now.point.sheet.now in r.is ∙ fronted _ _ (omega (arith, d))
 
 pub returns-clause-sheet_len : goal.returns-clause-sheet_len
-returns-clause-sheet_len c = let d = dual_long c.args.point.now.grid.plan.counts c.args.point.now.grid.plan.wiring.now c.args.term_index.now c.args.term_coefficient.now c.args.point.now.pieces c.args.point.now.grid.plan.readings.now c.args.point.now.sheet.now in
+returns-clause-sheet_len c = let d = dual_long c.args.site.now.point.grid.plan.counts c.args.site.now.point.grid.plan.wiring.now c.args.site.now.term_index.now c.args.site.now.term_coefficient.now c.args.site.now.point.pieces c.args.site.now.point.grid.plan.readings.now c.args.site.now.point.sheet.now in
     d

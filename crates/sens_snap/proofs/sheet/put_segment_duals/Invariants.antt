@@ -8,13 +8,13 @@ use Rattle.sens_snap.proofs.Stores.{Runs}
 use Rattle.sens_snap.proofs.sheet.put_segment_duals.Given as goal
 
 abbrev pub invariant-loop-j : goal.invariant-loop-j
-invariant-loop-j l = Runs (segment_words l.point.grid.plan.counts l.point.grid.plan.wiring.now l.point.pieces l.point.grid.plan.readings.now l.point.sheet.now) l.at l.j l.start l.initial.out l.out
+invariant-loop-j l = Runs (segment_words l.counted.point.grid.plan.counts l.counted.point.grid.plan.wiring.now l.counted.point.pieces l.counted.point.grid.plan.readings.now l.counted.point.sheet.now) 0 l.j l.start l.initial.out l.out
     × (l.j ≤ l.to)
-    × (l.to ≡ l.point.grid.plan.counts.generators)
+    × (l.to ≡ l.counted.point.grid.plan.counts.generators)
     × (l.to ≤ 256)
-    × (l.g ≡ piece_rank l.point.grid.plan.counts l.point.grid.plan.wiring.now l.j)
+    × (l.g ≡ piece_rank l.counted.point.grid.plan.counts l.counted.point.grid.plan.wiring.now l.j)
     × (l.g ≤ l.j)
-    × (l.start ≡ segment_start l.point.grid.plan.counts l.point.grid.plan.wiring.now l.j)
+    × (l.start ≡ segment_start l.counted.point.grid.plan.counts l.counted.point.grid.plan.wiring.now l.j)
     × (l.start ≤ 1024)
 
 abbrev pub decreases-loop-j : goal.decreases-loop-j

@@ -9,4 +9,4 @@ use Rattle.sens_snap.proofs.Stores.{Runs}
 use Rattle.sens_snap.proofs.sheet.snap_into.Given as goal
 
 abbrev pub invariant-loop-e : goal.invariant-loop-e
-invariant-loop-e l = Runs (λ k. entry_words l.point.grid.plan.counts l.point.grid.plan.wiring.now l.point.pieces l.point.grid.plan.readings.now l.point.sheet.now (get_or entries k Va)) 0 l.e-index l.at l.initial.out l.out × (l.at ≡ start (sizes l.point.grid.plan.counts l.point.pieces) l.e-index)
+invariant-loop-e l = Runs (λ k. entry_words l.counted.point.grid.plan.counts l.counted.point.grid.plan.wiring.now l.counted.point.pieces l.counted.point.grid.plan.readings.now l.counted.point.sheet.now (get_or entries k Va)) 0 l.e-index l.at l.initial.out l.out × (l.at ≡ start (sizes l.counted.point.grid.plan.counts l.counted.point.pieces) l.e-index)

@@ -7,7 +7,7 @@ ghost use Rattle.words.specs.Words.{doubles_of};
 ghost use Rattle.model.specs.Calls.{shed_cap_call, flow_offset_call, generator_cost_call, evaluate_call};
 ghost use Rattle.decoding.specs.Exports.{out, whole, all_whole, decoded, filled_out};
 
-use decoding::answer::pack;
+use decoding::answer::pack_answer;
 use decoding::decode::take;
 use decoding::fill::fill_sheet;
 use model::dc::{current_flow_offset, evaluate, generator_cost, shed_cap};
@@ -93,11 +93,11 @@ pub extern "C" fn capi_evaluate(
 {
     let mut fs = [0.0; 512];
     let Some(flows) = take(f, &mut fs) else {
-        return pack(Err(Refusal::Size));
+        return pack_answer(Err(Refusal::Size));
     };
     let mut ps = [0.0; 256];
     let Some(powers) = take(pg, &mut ps) else {
-        return pack(Err(Refusal::Size));
+        return pack_answer(Err(Refusal::Size));
     };
     fill_sheet::<1, _>(
         wiring,

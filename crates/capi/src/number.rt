@@ -6,7 +6,7 @@ ghost use Rattle.model.specs.Calls.{row_kind_call};
 ghost use Rattle.decoding.specs.Exports.{packed, all_whole, decoded};
 
 use decoding::Arrays;
-use decoding::answer::pack;
+use decoding::answer::pack_answer;
 use model::dc::row_kind;
 use network::Lent;
 use sequence::Refusal;
@@ -32,7 +32,7 @@ pub extern "C" fn capi_network_number(
 {
     let mut arrays = Arrays::new();
     let Some(lent) = arrays.read(wiring, readings, term_index, term_coefficient) else {
-        return pack(Err(Refusal::Size));
+        return pack_answer(Err(Refusal::Size));
     };
     network_number_out(lent)
 }
@@ -41,7 +41,7 @@ pub extern "C" fn capi_network_number(
 fn row_kind_out(lent: Lent<'_>, row: usize) -> u64
     ensures { result ≡ packed (row_kind_call (network_in lent.entry) row).number (row_kind_call (network_in lent.entry) row).kind }
 {
-    pack(row_kind(lent, row).map(|kind| kind.number() as usize))
+    pack_answer(row_kind(lent, row).map(|kind| kind.number() as usize))
 }
 
 #[unsafe(no_mangle)]
@@ -56,7 +56,7 @@ pub extern "C" fn capi_row_kind(
 {
     let mut arrays = Arrays::new();
     let Some(lent) = arrays.read(wiring, readings, term_index, term_coefficient) else {
-        return pack(Err(Refusal::Size));
+        return pack_answer(Err(Refusal::Size));
     };
     row_kind_out(lent, row)
 }

@@ -8,7 +8,7 @@ ghost use Rattle.job_book.specs.Book.{change, given, words, step};
 ghost use Rattle.capi_change.specs.Told.{given_in, words_in, leaves, told_bytes};
 
 use change::change;
-use decoding::answer::{list_room, listed, pack};
+use decoding::answer::{encode_list, list_room, pack_answer};
 use decoding::decode::take;
 use decoding::{Arrays, Taken};
 use job_book::Change;
@@ -48,10 +48,10 @@ fn change_out(
         asked,
     );
     if answer.is_err() {
-        return pack(answer);
+        return pack_answer(answer);
     }
     encode(readings, read);
-    listed(
+    encode_list(
         answer,
         row_cells,
         col_cells,
@@ -80,7 +80,7 @@ pub extern "C" fn capi_change(
 {
     let arrays = &mut Arrays::new();
     let Some(taken) = arrays.fill(wiring, readings, term_index, term_coefficient) else {
-        return pack(Err(Refusal::Size));
+        return pack_answer(Err(Refusal::Size));
     };
     let Taken {
         wiring,
@@ -90,7 +90,7 @@ pub extern "C" fn capi_change(
     } = taken;
     let mut solved = [0.0; 6017];
     let Some(solved) = take(solution, &mut solved) else {
-        return pack(Err(Refusal::Size));
+        return pack_answer(Err(Refusal::Size));
     };
     let mut row_cells = [0u32; 27552];
     let mut col_cells = [0u32; 27552];

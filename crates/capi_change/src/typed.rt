@@ -6,7 +6,7 @@ ghost use Rattle.capi_change.specs.Told.{told, telling, told_run, telling_run};
 
 use change::change;
 use change_run::run_changes;
-use decoding::answer::pack;
+use decoding::answer::pack_answer;
 use job_book::Change;
 use sequence::number;
 
@@ -26,7 +26,7 @@ pub extern "C" fn site_change(
 ) -> u64
     ensures { told result (words readings.new rows.new cols.new values.new) ≡ telling (step (given wiring.now term_index.now term_coefficient.now solution.now) first_place (λ W h. []) (words readings.old rows.old cols.old values.old) (change head low high)) }
 {
-    pack(change(
+    pack_answer(change(
         wiring,
         readings,
         term_index,

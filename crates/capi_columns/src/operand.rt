@@ -10,7 +10,7 @@ ghost use Rattle.capi_columns.specs.Columns.{selecting, selector_out};
 
 use asked::operand_asked;
 use decoding::Arrays;
-use decoding::answer::{cells_for, listed, pack};
+use decoding::answer::{cells_for, encode_list, pack_answer};
 use interface::Operand;
 use network::Lent;
 use sens_operands::operand_selector;
@@ -43,7 +43,7 @@ fn selector_out(
     ) {
         Ok(count) => {
             encode(&sign_cells[..1], sign);
-            listed(
+            encode_list(
                 Ok(count),
                 count_cells,
                 row_cells,
@@ -53,7 +53,7 @@ fn selector_out(
                 weights,
             )
         }
-        Err(refusal) => pack(Err(refusal)),
+        Err(refusal) => pack_answer(Err(refusal)),
     }
 }
 
@@ -73,7 +73,7 @@ pub extern "C" fn capi_operand_selector(
 {
     let mut arrays = Arrays::new();
     let Some(lent) = arrays.read(wiring, readings, term_index, term_coefficient) else {
-        return pack(Err(Refusal::Size));
+        return pack_answer(Err(Refusal::Size));
     };
     let mut sign_cells = [0.0; 1];
     let mut count_cells = [0u32; 512];

@@ -12,7 +12,7 @@ ghost use Rattle.capi_columns.specs.Columns.{column_out};
 
 use asked::parameter_asked;
 use decoding::Arrays;
-use decoding::answer::{cells_for, pack};
+use decoding::answer::{cells_for, pack_answer};
 use decoding::decode::take;
 use interface::Parameter;
 use network::Lent;
@@ -35,9 +35,9 @@ fn column_out(
     match parameter_jacobian(lent, solution, parameter, &[column], cells) {
         Ok(count) => {
             encode(&cells[..dim_of(lent)], sheet);
-            pack(Ok(count))
+            pack_answer(Ok(count))
         }
-        Err(refusal) => pack(Err(refusal)),
+        Err(refusal) => pack_answer(Err(refusal)),
     }
 }
 
@@ -56,11 +56,11 @@ pub extern "C" fn capi_parameter_jacobian(
 {
     let mut arrays = Arrays::new();
     let Some(lent) = arrays.read(wiring, readings, term_index, term_coefficient) else {
-        return pack(Err(Refusal::Size));
+        return pack_answer(Err(Refusal::Size));
     };
     let mut solved = [0.0; 6017];
     let Some(solved) = take(solution, &mut solved) else {
-        return pack(Err(Refusal::Size));
+        return pack_answer(Err(Refusal::Size));
     };
     let mut cells = [0.0; 6544];
     let n = cells_for(sheet.len(), 6544);

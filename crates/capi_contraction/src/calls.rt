@@ -14,7 +14,7 @@ ghost use Rattle.capi_contraction.specs.Contraction.{entries_fit, sheets_fit, wr
 use asked::mode_asked;
 use contraction::Selector;
 use decoding::Arrays;
-use decoding::answer::{answered, cells_for, pack};
+use decoding::answer::{cells_for, encode_answer, pack_answer};
 use decoding::decode::take;
 use interface::Mode;
 use network::Lent;
@@ -87,7 +87,7 @@ fn first_out(
     let answer = contraction_first(lent, mode, selector, 1, cells);
     let n = written_words(mode, count(answer));
     encode(&cells[..n], selection);
-    pack(answer)
+    pack_answer(answer)
 }
 
 #[unsafe(no_mangle)]
@@ -107,12 +107,12 @@ pub extern "C" fn capi_contraction_first(
 {
     let mut arrays = Arrays::new();
     let Some(lent) = arrays.read(wiring, readings, term_index, term_coefficient) else {
-        return pack(Err(Refusal::Size));
+        return pack_answer(Err(Refusal::Size));
     };
     let counts = [entries];
     let mut listed = Entries::new();
     let Some(selector) = listed.selector(sign, &counts, rows, weights) else {
-        return pack(Err(Refusal::Size));
+        return pack_answer(Err(Refusal::Size));
     };
     let mut cells = [0.0; 6544];
     let n = cells_for(selection.len(), 6544);
@@ -135,7 +135,7 @@ fn third_out(
     ensures { out result sheet.new ≡ filled_out true (third_call (network_in lent.entry) mode (selector_in selector.entry) 1 parameter.now solved.now (doubles_of sheet.old)) sheet.old }
 {
     let answer = contraction_third(lent, mode, selector, 1, parameter, solved, cells);
-    answered(answer, cells, sheet)
+    encode_answer(answer, cells, sheet)
 }
 
 #[unsafe(no_mangle)]
@@ -157,20 +157,20 @@ pub extern "C" fn capi_contraction_third(
 {
     let mut arrays = Arrays::new();
     let Some(lent) = arrays.read(wiring, readings, term_index, term_coefficient) else {
-        return pack(Err(Refusal::Size));
+        return pack_answer(Err(Refusal::Size));
     };
     let counts = [entries];
     let mut listed = Entries::new();
     let Some(selector) = listed.selector(sign, &counts, rows, weights) else {
-        return pack(Err(Refusal::Size));
+        return pack_answer(Err(Refusal::Size));
     };
     let mut parameter_array = [0.0; 6544];
     let Some(parameter) = take(parameter, &mut parameter_array) else {
-        return pack(Err(Refusal::Size));
+        return pack_answer(Err(Refusal::Size));
     };
     let mut solved_array = [0.0; 6544];
     let Some(solved) = take(solved, &mut solved_array) else {
-        return pack(Err(Refusal::Size));
+        return pack_answer(Err(Refusal::Size));
     };
     let mut cells = [0.0; 1];
     let n = cells_for(sheet.len(), 1);

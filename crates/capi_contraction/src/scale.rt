@@ -7,14 +7,14 @@ ghost use Rattle.decoding.specs.Exports.{out, filled_out};
 ghost use Rattle.decoding.specs.Decoding.{Cells};
 
 use asked::scale;
-use decoding::answer::{answered, cells_for};
+use decoding::answer::{cells_for, encode_answer};
 
 fn scale_out(operand: u32, parameter: u32, base: f64, cells: &mut [f64], sheet: &mut [u8]) -> u64
     requires { Cells 1 (length sheet.old) (length cells.old) }
     ensures { out result sheet.new ≡ filled_out true (scaling (operand_of operand) (parameter_of parameter) base (doubles_of sheet.old)) sheet.old }
 {
     let answer = scale(operand, parameter, base, cells);
-    answered(answer, cells, sheet)
+    encode_answer(answer, cells, sheet)
 }
 
 #[unsafe(no_mangle)]

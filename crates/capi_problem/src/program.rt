@@ -13,7 +13,7 @@ ghost use Rattle.capi_problem.specs.Cells.{ProgramCells, ListFits, SidesFit};
 
 use crate::Sides;
 use decoding::Arrays;
-use decoding::answer::{cells_for, list_room, listed};
+use decoding::answer::{cells_for, encode_list, list_room};
 use network::layout::counts;
 use network::{Lent, Plan};
 use opf_layout::OpfLayout;
@@ -104,8 +104,8 @@ fn lists_back(
     ensures p_rows_after { (p_rows.new ≡ front (word_bytes (take written.p pr.now)) p_rows.old) × (p_cols.new ≡ front (word_bytes (take written.p pc.now)) p_cols.old) × (p_values.new ≡ front (double_bytes (take written.p pv.now)) p_values.old) }
     ensures a_rows_after { (a_rows.new ≡ front (word_bytes (take written.a ar.now)) a_rows.old) × (a_cols.new ≡ front (word_bytes (take written.a ac.now)) a_cols.old) × (a_values.new ≡ front (double_bytes (take written.a av.now)) a_values.old) }
 {
-    listed(Ok(written.p), pr, pc, pv, p_rows, p_cols, p_values);
-    listed(Ok(written.a), ar, ac, av, a_rows, a_cols, a_values);
+    encode_list(Ok(written.p), pr, pc, pv, p_rows, p_cols, p_values);
+    encode_list(Ok(written.a), ar, ac, av, a_rows, a_cols, a_values);
 }
 
 // q, b and the cones' sizes as bytes.

@@ -7,9 +7,10 @@ ghost use Rattle.words.specs.Words.{doubles_of};
 ghost use Rattle.decoding.specs.Exports.{out, whole, all_whole, decoded, filled_out};
 ghost use Rattle.problem.specs.Calls.{nodal_call, read_call};
 
-use decoding::answer::pack;
+use decoding::Arrays;
+use decoding::answer::pack_answer;
 use decoding::decode::take;
-use decoding::fill::{fill_from_solution, fill_sheet};
+use decoding::fill::{fill_cells, fill_from_solution};
 use problem::{nodal_marginal_values, read_dc_solution};
 use sequence::Refusal;
 use words::number;
@@ -50,19 +51,20 @@ pub extern "C" fn capi_read_dc_solution(
 ) -> u64
     ensures { out result sheet.new ≡ filled_out (all_whole wiring.entry readings.entry term_index.entry term_coefficient.entry && (whole 8 x.now && whole 8 z.now)) (read_call (decoded wiring.entry readings.entry term_index.entry term_coefficient.entry) (doubles_of x.now) (doubles_of z.now) (of_bits binary64 objective) (doubles_of sheet.old)) sheet.old }
 {
+    let mut arrays = Arrays::new();
+    let Some(lent) = arrays.read(wiring, readings, term_index, term_coefficient) else {
+        return pack_answer(Err(Refusal::Size));
+    };
     let mut primal = [0.0; 1536];
     let Some(columns) = take(x, &mut primal) else {
-        return pack(Err(Refusal::Size));
+        return pack_answer(Err(Refusal::Size));
     };
     let mut dual = [0.0; 5072];
     let Some(rows) = take(z, &mut dual) else {
-        return pack(Err(Refusal::Size));
+        return pack_answer(Err(Refusal::Size));
     };
-    fill_sheet::<6017, _>(
-        wiring,
-        readings,
-        term_index,
-        term_coefficient,
+    fill_cells::<6017, _>(
+        lent,
         sheet,
         |lent, cells| read_dc_solution(lent, columns, rows, number(objective), cells),
     )

@@ -7,9 +7,10 @@ ghost use Rattle.decoding.specs.Exports.{outs, whole, all_whole, decoded, laid_o
 ghost use Rattle.sens_dc.specs.Calls.{matrix_call};
 ghost use Rattle.capi_sens.specs.Packed.{packed_laid, packing};
 
-use decoding::answer::pack;
+use decoding::Arrays;
+use decoding::answer::pack_answer;
 use decoding::decode::take;
-use decoding::list::fill_list;
+use decoding::list::fill_list_cells;
 use network::Lent;
 use sens_dc::kkt_triplets;
 use sequence::Refusal;
@@ -33,7 +34,7 @@ pub extern "C" fn sens_kkt_triplets(
         term_index,
         term_coefficient,
     };
-    pack(kkt_triplets(lent, solution, rows, cols, values))
+    pack_answer(kkt_triplets(lent, solution, rows, cols, values))
 }
 
 #[unsafe(no_mangle)]
@@ -49,16 +50,17 @@ pub extern "C" fn capi_kkt_triplets(
 ) -> u64
     ensures { outs result rows.new cols.new values.new ≡ laid_out (all_whole wiring.entry readings.entry term_index.entry term_coefficient.entry && whole 8 solution.now) (matrix_call first_place [] (decoded wiring.entry readings.entry term_index.entry term_coefficient.entry) (doubles_of solution.now) (words_of rows.old) (words_of cols.old) (doubles_of values.old)) rows.old cols.old values.old }
 {
+    let mut arrays = Arrays::new();
+    let Some(lent) = arrays.read(wiring, readings, term_index, term_coefficient) else {
+        return pack_answer(Err(Refusal::Size));
+    };
     let mut solved = [0.0; 6017];
     let Some(solved) = take(solution, &mut solved) else {
-        return pack(Err(Refusal::Size));
+        return pack_answer(Err(Refusal::Size));
     };
     let solution: &[f64] = solved;
-    fill_list::<27552, _>(
-        wiring,
-        readings,
-        term_index,
-        term_coefficient,
+    fill_list_cells::<27552, _>(
+        lent,
         rows,
         cols,
         values,

@@ -57,5 +57,9 @@ module _ (w r t : List ℕ) where
   pub all_whole : true ≡ fits 4 w 3033 → true ≡ fits 8 r 8065 → true ≡ fits 12 t 1024 → wholes ≡ true
   all_whole p q s = rw (whole_of 4 w 3033 (sym p), whole_of 8 r 8065 (sym q), whole_of 12 t 1024 (sym s))
 
+-- what was decoded, where it was all of the terms
+pub taken : (t : List ℕ) {b : List ℕ} {s : List Term} → s ≡ terms_of b → true ≡ fits 12 b 1024 → b ≡ t → (s ≡ terms_of t) × (true ≡ fits 12 t 1024)
+taken t h f e = (rw e at h, rw e at f)
+
 pub same_network : {w w' : List ℕ} {r r' : List Float} {t t' : List Term} → w ≡ w' → r ≡ r' → t ≡ t' → network_of w r t ≡ network_of w' r' t'
 same_network p q s = rw (p, q, s)

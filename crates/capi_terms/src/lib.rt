@@ -9,7 +9,7 @@ ghost use Rattle.decoding.specs.Exports.{out, whole, filled_out};
 ghost use Rattle.decoding.specs.Decoding.{Cells};
 ghost use Rattle.capi_terms.specs.Records.{recorded, whole_records};
 
-use decoding::answer::{answered, cells_for, pack};
+use decoding::answer::{cells_for, encode_answer, pack_answer};
 use decoding::decode::take;
 use sequence::Refusal;
 use terms::{Term, evaluate};
@@ -29,7 +29,7 @@ fn evaluate_out(
     ensures { out result sheet.new ≡ filled_out true (evaluate_call (network_of wiring.now readings.now terms.now) row f.now pg.now (doubles_of sheet.old)) sheet.old }
 {
     let answer = evaluate(wiring, readings, terms, row, f, pg, cells);
-    answered(answer, cells, sheet)
+    encode_answer(answer, cells, sheet)
 }
 
 #[unsafe(no_mangle)]
@@ -46,11 +46,11 @@ pub extern "C" fn capi_evaluate_terms(
 {
     let mut w = [0; 3033];
     let Some(wiring) = take(wiring, &mut w) else {
-        return pack(Err(Refusal::Size));
+        return pack_answer(Err(Refusal::Size));
     };
     let mut r = [0.0; 8065];
     let Some(readings) = take(readings, &mut r) else {
-        return pack(Err(Refusal::Size));
+        return pack_answer(Err(Refusal::Size));
     };
     let none = Term {
         index: 0,
@@ -58,15 +58,15 @@ pub extern "C" fn capi_evaluate_terms(
     };
     let mut ts = [none; 1024];
     let Some(terms) = take(terms, &mut ts) else {
-        return pack(Err(Refusal::Size));
+        return pack_answer(Err(Refusal::Size));
     };
     let mut fs = [0.0; 512];
     let Some(flows) = take(f, &mut fs) else {
-        return pack(Err(Refusal::Size));
+        return pack_answer(Err(Refusal::Size));
     };
     let mut ps = [0.0; 256];
     let Some(powers) = take(pg, &mut ps) else {
-        return pack(Err(Refusal::Size));
+        return pack_answer(Err(Refusal::Size));
     };
     let mut cells = [0.0; 1];
     let k = cells_for(sheet.len(), 1);

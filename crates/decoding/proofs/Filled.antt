@@ -1,5 +1,5 @@
 -- The laws of an export that fills a sheet: what the call in it gives is what the export tells. Assumes nothing.
-use mathlib.Core.Path.{◌≡◌, ap, ◌∙◌}
+use mathlib.Core.Path.{◌≡◌, refl, ap, ◌∙◌}
 use mathlib.Core.Bool.{Bool, true, false, ◌&&◌}
 use mathlib.Core.List.{List}
 use Prim.Native.Nat.{ℕ}
@@ -38,6 +38,11 @@ exported_anew {most = most} {word = word} {old = old} {new = new} f (made o m) =
       by_call = p.4;
       told = rw p.3 m.told;
     })
+
+-- slices that are no network are refused, whether or not the slice of a solution fits
+pub refused_at : (fit : Bool) {ok : Bool} {N : Network} {most word : ℕ} {old new : List ℕ} {post : Post} → ok && sizes_hold N ≡ false → out word new ≡ out 1 old → ExportedAt fit ok N most post word old new
+refused_at true h e = read refl (refused h e)
+refused_at false h e = unread refl e
 
 module _ {N : Network} {ok : Bool} {most word : ℕ} {old new : List ℕ} (all : Bool) where
   pub exported : {post : Post} (gives : Network → List Float → Filled Float)

@@ -1,8 +1,9 @@
 -- What the decoding of byte slices into arrays leaves, and how much room a result has. Assumes nothing.
-use Rattle.std.specs.Prelude.{ℕ, ◌*◌, ◌/◌, ◌≤◌, min, ◌≡◌, Bool, true, false, ◌&&◌, List, length, replicate, leb, Option, IfSome, IfNone}
+use Rattle.std.specs.Prelude.{ℕ, ◌*◌, ◌/◌, ◌≤◌, min, ◌≡◌, Bool, true, false, ◌&&◌, List, length, take, replicate, leb, Option, IfSome, IfNone}
 use Rattle.float64.specs.Values.{nought}
 use Rattle.network.specs.Numbers.{Network, sizes_hold}
 use Rattle.decoding.specs.declared.Arrays.{Arrays}
+use Rattle.decoding.specs.declared.Lengths.{Lengths}
 use Rattle.decoding.specs.declared.Taken.{Taken}
 use Rattle.decoding.specs.Exports.{whole}
 
@@ -10,9 +11,32 @@ use Rattle.decoding.specs.Exports.{whole}
 abbrev pub fits : ℕ → List ℕ → ℕ → Bool
 fits k b most = whole k b && leb (length b / k) most
 
+-- some words are the front of an array
+pub record Held {A : Type 0} (words : List A) (count : ℕ) (array : List A) : Type 0 where
+  pub room : count ≤ length array
+  pub front : take count array ≡ words
+
 -- arrays in which every word and double is zero
 unfoldable pub zeros : Arrays
 zeros = record { wiring = replicate 3033 0; readings = replicate 8065 nought; indexes = replicate 1024 0; coefficients = replicate 1024 nought }
+
+-- the network in front of four arrays, at these lengths
+abbrev pub cut : Lengths → Arrays → Network
+cut l A =
+    record {
+      wiring = take l.wiring A.wiring;
+      readings = take l.readings A.readings;
+      indexes = take l.indexes A.indexes;
+      coefficients = take l.coefficients A.coefficients;
+    }
+
+-- the arrays hold a network
+pub record Holds (N : Network) (l : Lengths) (A : Arrays) : Type 0 where
+  pub wiring_room : l.wiring ≤ length A.wiring
+  pub readings_room : l.readings ≤ length A.readings
+  pub indexes_room : l.indexes ≤ length A.indexes
+  pub coefficients_room : l.coefficients ≤ length A.coefficients
+  pub network : cut l A ≡ N
 
 -- the network in front of four arrays
 abbrev pub network_taken : Taken → Network

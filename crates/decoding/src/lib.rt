@@ -16,6 +16,15 @@ pub struct Arrays {
     pub coefficients: [f64; 1024],
 }
 
+// The lengths of a network's slices in front of such arrays.
+#[derive(Clone, Copy)]
+pub struct Lengths {
+    pub wiring: usize,
+    pub readings: usize,
+    pub indexes: usize,
+    pub coefficients: usize,
+}
+
 // A network's slices in front of such arrays, of which the readings may change.
 #[derive(Drop)]
 pub struct Taken<'a> {

@@ -4,10 +4,10 @@ use mathlib.Core.Path.{◌∙◌}
 use Rattle.decoding.proofs.Answered.{element_answer, element_count}
 use Rattle.capi_terms.proofs.evaluate_out.Goals as goal
 
-pub answered-requires : goal.answered-requires
-answered-requires c = let e = c.evaluate-answer.ensures in
+pub encode_answer-requires : goal.encode_answer-requires
+encode_answer-requires c = let e = c.evaluate-answer.ensures in
     omega (arith, element_count _ _ _ _ _ _ c.args.sheet.now c.args.cells.now c.requires e, c.requires.below, c.requires.within)
 
 pub returns : goal.returns
 returns c = let e = c.evaluate-answer.ensures in
-    c.answered.ensures ∙ element_answer _ _ _ _ _ _ c.args.sheet.now c.args.cells.now c.requires e
+    c.encode_answer.ensures ∙ element_answer _ _ _ _ _ _ c.args.sheet.now c.args.cells.now c.requires e

@@ -12,11 +12,11 @@ use Rattle.capi.proofs.element.capi_evaluate.Goals as goal
 
 pub returns-in_default : goal.returns-in_default
 returns-in_default c = let a = c.args in
-    rw c.pack.ensures (element_one _ _ _ _ _ _ (doubles_of a.sheet.now) _ _ (unsized_flows _ _ a.f.now a.pg.now c.in_default.ensures.fits))
+    rw c.pack_answer.ensures (element_one _ _ _ _ _ _ (doubles_of a.sheet.now) _ _ (unsized_flows _ _ a.f.now a.pg.now c.in_default.ensures.fits))
 
 pub returns-in_default-take : goal.returns-in_default-take
 returns-in_default-take c = let a = c.args in
-    rw c.pack-in_default-take.ensures (element_one _ _ _ _ _ _ (doubles_of a.sheet.now) _ _ (unsized_powers _ _ a.f.now a.pg.now c.in_default-take.ensures.fits))
+    rw c.pack_answer-in_default-take.ensures (element_one _ _ _ _ _ _ (doubles_of a.sheet.now) _ _ (unsized_powers _ _ a.f.now a.pg.now c.in_default-take.ensures.fits))
 
 pub fill_sheet-requires-clause-call : goal.fill_sheet-requires-clause-call
 fill_sheet-requires-clause-call c =

@@ -6,7 +6,7 @@ use Rattle.decoding.proofs.Answered.{number_one, told}
 use Rattle.capi.proofs.number.capi_network_number.Goals as goal
 
 pub returns-in_default : goal.returns-in_default
-returns-in_default c = rw c.pack.ensures (number_one _ _ c.in_default.ensures.refused)
+returns-in_default c = rw c.pack_answer.ensures (number_one _ _ c.in_default.ensures.refused)
 
 pub returns : goal.returns
 returns c = let h = c.in-Some.ensures.decoded in

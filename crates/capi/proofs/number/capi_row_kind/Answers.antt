@@ -8,7 +8,7 @@ use Rattle.decoding.proofs.Answered.{kind_one, told}
 use Rattle.capi.proofs.number.capi_row_kind.Goals as goal
 
 pub returns-in_default : goal.returns-in_default
-returns-in_default c = rw c.pack.ensures (kind_one _ _ c.args.row c.in_default.ensures.refused)
+returns-in_default c = rw c.pack_answer.ensures (kind_one _ _ c.args.row c.in_default.ensures.refused)
 
 pub returns : goal.returns
 returns c = let a = c.args in

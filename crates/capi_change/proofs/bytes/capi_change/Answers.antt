@@ -16,7 +16,7 @@ returns-in_default c = let a = c.args in
     let u = words (doubles_of a.readings.now) (words_of a.rows.now) (words_of a.cols.now) (doubles_of a.values.now) in
     let n = network a.wiring.now a.readings.now a.term_index.now a.term_coefficient.now in
     let w = wholes a.wiring.now a.readings.now a.term_index.now a.term_coefficient.now in
-    rw c.pack.ensures (change_one g first_place u.readings (change a.head a.low a.high) u refl _ _ _ _ _ (unsized_beside n w a.solution.now _ c.in_default.ensures.refused))
+    rw c.pack_answer.ensures (change_one g first_place u.readings (change a.head a.low a.high) u refl _ _ _ _ _ (unsized_beside n w a.solution.now _ c.in_default.ensures.refused))
 
 pub returns-in_default-take : goal.returns-in_default-take
 returns-in_default-take c = let a = c.args in
@@ -24,7 +24,7 @@ returns-in_default-take c = let a = c.args in
     let u = words (doubles_of a.readings.now) (words_of a.rows.now) (words_of a.cols.now) (doubles_of a.values.now) in
     let n = network a.wiring.now a.readings.now a.term_index.now a.term_coefficient.now in
     let w = wholes a.wiring.now a.readings.now a.term_index.now a.term_coefficient.now in
-    rw c.pack-in_default-take.ensures
+    rw c.pack_answer-in_default-take.ensures
     (change_one g first_place u.readings (change a.head a.low a.high) u refl _ _ _ _ _ (unsized_own n w a.solution.now _ (long_few n (doubles_of a.solution.now)) c.in_default-take.ensures.fits))
 
 pub change_out-requires-clause-readings_value : goal.change_out-requires-clause-readings_value

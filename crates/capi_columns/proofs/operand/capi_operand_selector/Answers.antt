@@ -5,7 +5,7 @@ use Rattle.capi_columns.proofs.Selector.{selector_one}
 use Rattle.capi_columns.proofs.operand.capi_operand_selector.Goals as goal
 
 pub returns-in_default : goal.returns-in_default
-returns-in_default c = rw c.pack.ensures (selector_one _ _ _ _ _ _ _ _ (unsized _ _ c.in_default.ensures.refused))
+returns-in_default c = rw c.pack_answer.ensures (selector_one _ _ _ _ _ _ _ _ (unsized _ _ c.in_default.ensures.refused))
 
 pub selector_out-requires-clause-elements : goal.selector_out-requires-clause-elements
 selector_out-requires-clause-elements c = let e = cells_are c.cells_for-sign_room.ensures in search rules

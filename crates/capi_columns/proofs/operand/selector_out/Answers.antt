@@ -28,14 +28,14 @@ encode-requires c = let a = c.args in
     let h : 1 ≤ length c.operand_selector.new.sign = omega (arith, l.0, c.operand_selector.auto) in
     omega (arith, l.0, r.elements.0, cut_count 1 c.operand_selector.new.sign h)
 
-pub listed-requires-clause-count_in_bounds : goal.listed-requires-clause-count_in_bounds
-listed-requires-clause-count_in_bounds c = let a = c.args in
+pub encode_list-requires-clause-count_in_bounds : goal.encode_list-requires-clause-count_in_bounds
+encode_list-requires-clause-count_in_bounds c = let a = c.args in
     let r = c.requires in
     let l = passed_room _ a.sign.now a.counts.now a.rows.now a.weights.now a.sign_cells.now a.count_cells.now a.row_cells.now a.weight_cells.now r.elements.0 r.elements.1 r.entries.0 r.entries.1 a.operand c.in-Ok.ensures refl in
     omega (arith, l, r.elements.1, r.entries, c.operand_selector.auto)
 
-pub listed-requires-clause-count_in_bounds_2 : goal.listed-requires-clause-count_in_bounds_2
-listed-requires-clause-count_in_bounds_2 c = let a = c.args in
+pub encode_list-requires-clause-count_in_bounds_2 : goal.encode_list-requires-clause-count_in_bounds_2
+encode_list-requires-clause-count_in_bounds_2 c = let a = c.args in
     let r = c.requires in
     let l = passed_room _ a.sign.now a.counts.now a.rows.now a.weights.now a.sign_cells.now a.count_cells.now a.row_cells.now a.weight_cells.now r.elements.0 r.elements.1 r.entries.0 r.entries.1 a.operand c.in-Ok.ensures refl in
     omega (arith, l, r.elements.1, r.entries)
@@ -43,9 +43,9 @@ listed-requires-clause-count_in_bounds_2 c = let a = c.args in
 pub returns-in-Ok : goal.returns-in-Ok
 returns-in-Ok c = let a = c.args in
     let r = c.requires in
-    answer_done _ a.sign.now a.counts.now a.rows.now a.weights.now a.sign_cells.now a.count_cells.now a.row_cells.now a.weight_cells.now r.elements.0 r.elements.1 r.entries.0 r.entries.1 a.operand c.in-Ok.ensures refl c.encode.ensures.out_after c.listed.ensures
+    answer_done _ a.sign.now a.counts.now a.rows.now a.weights.now a.sign_cells.now a.count_cells.now a.row_cells.now a.weight_cells.now r.elements.0 r.elements.1 r.entries.0 r.entries.1 a.operand c.in-Ok.ensures refl c.encode.ensures.out_after c.encode_list.ensures
 
 pub returns-in-Err : goal.returns-in-Err
 returns-in-Err c = let a = c.args in
     let r = c.requires in
-    answer_refused _ a.sign.now a.counts.now a.rows.now a.weights.now a.sign_cells.now a.count_cells.now a.row_cells.now a.weight_cells.now r.elements.0 r.elements.1 r.entries.0 r.entries.1 a.operand c.in-Err.ensures (refused c.in-Err.refusal) c.pack.ensures
+    answer_refused _ a.sign.now a.counts.now a.rows.now a.weights.now a.sign_cells.now a.count_cells.now a.row_cells.now a.weight_cells.now r.elements.0 r.elements.1 r.entries.0 r.entries.1 a.operand c.in-Err.ensures (refused c.in-Err.refusal) c.pack_answer.ensures

@@ -27,15 +27,15 @@ encode-requires c = let a = c.args in
     let h : c.dim_of.result ≤ length c.parameter_jacobian.new.sheet = omega (arith, d, l, c.parameter_jacobian.auto) in
     omega (arith, d, l, c.requires.within, cut_count c.dim_of.result c.parameter_jacobian.new.sheet h)
 
-pub pack-requires : goal.pack-requires
-pack-requires c = let a = c.args in
+pub pack_answer-requires : goal.pack_answer-requires
+pack_answer-requires c = let a = c.args in
     omega (arith, passed_count _ _ _ a.parameter a.sheet.now a.cells.now c.requires c.in-Ok.ensures refl)
 
 pub returns-in-Ok : goal.returns-in-Ok
 returns-in-Ok c = let a = c.args in
     let d = c.dim_of.ensures (passed_size _ _ _ a.parameter a.sheet.now a.cells.now c.requires c.in-Ok.ensures refl) in
-    answer_done _ _ _ a.parameter a.sheet.now a.cells.now c.requires c.in-Ok.ensures refl d c.encode.ensures.out_after c.pack.ensures
+    answer_done _ _ _ a.parameter a.sheet.now a.cells.now c.requires c.in-Ok.ensures refl d c.encode.ensures.out_after c.pack_answer.ensures
 
 pub returns-in-Err : goal.returns-in-Err
 returns-in-Err c = let a = c.args in
-    answer_refused _ _ _ a.parameter a.sheet.now a.cells.now c.requires c.in-Err.ensures (refused c.in-Err.refusal) c.pack-in-Err.ensures
+    answer_refused _ _ _ a.parameter a.sheet.now a.cells.now c.requires c.in-Err.ensures (refused c.in-Err.refusal) c.pack_answer-in-Err.ensures

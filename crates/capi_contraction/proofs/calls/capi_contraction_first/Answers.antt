@@ -13,11 +13,11 @@ use Rattle.capi_contraction.proofs.First.{first_one, unfit}
 use Rattle.capi_contraction.proofs.calls.capi_contraction_first.Goals as goal
 
 pub returns-in_default : goal.returns-in_default
-returns-in_default c = rw c.pack.ensures (first_one _ _ _ (doubles_of c.args.selection.now) _ _ (missed (entries_fit c.args.rows.now c.args.weights.now) c.in_default.ensures))
+returns-in_default c = rw c.pack_answer.ensures (first_one _ _ _ (doubles_of c.args.selection.now) _ _ (missed (entries_fit c.args.rows.now c.args.weights.now) c.in_default.ensures))
 
 pub returns-in_default-selector : goal.returns-in_default-selector
 returns-in_default-selector c = let a = c.args in
-    rw c.pack-in_default-selector.ensures (unfit _ _ _ a.selection.now (right_out (all_whole a.wiring a.readings a.term_index a.term_coefficient) (sym c.in_default-selector.ensures.fit)))
+    rw c.pack_answer-in_default-selector.ensures (unfit _ _ _ a.selection.now (right_out (all_whole a.wiring a.readings a.term_index a.term_coefficient) (sym c.in_default-selector.ensures.fit)))
 
 pub first_out-requires-clause-cells : goal.first_out-requires-clause-cells
 first_out-requires-clause-cells c = let n = c.cells_for-n.ensures in cut_cells _ n.below n

@@ -16,19 +16,19 @@ use Rattle.capi_contraction.proofs.Third.{third_one, unfit}
 use Rattle.capi_contraction.proofs.calls.capi_contraction_third.Goals as goal
 
 pub returns-in_default : goal.returns-in_default
-returns-in_default c = rw c.pack.ensures (third_one _ _ _ _ _ (doubles_of c.args.sheet.now) _ _ (missed (entries_fit c.args.rows.now c.args.weights.now && sheets_fit c.args.parameter.now c.args.solved.now) c.in_default.ensures))
+returns-in_default c = rw c.pack_answer.ensures (third_one _ _ _ _ _ (doubles_of c.args.sheet.now) _ _ (missed (entries_fit c.args.rows.now c.args.weights.now && sheets_fit c.args.parameter.now c.args.solved.now) c.in_default.ensures))
 
 pub returns-in_default-selector : goal.returns-in_default-selector
 returns-in_default-selector c = let a = c.args in
-    rw c.pack-in_default-selector.ensures (unfit _ _ a.sheet.now (right_out (all_whole a.wiring a.readings a.term_index a.term_coefficient) (left_out (sheets_fit a.parameter.now a.solved.now) (sym c.in_default-selector.ensures.fit))))
+    rw c.pack_answer-in_default-selector.ensures (unfit _ _ a.sheet.now (right_out (all_whole a.wiring a.readings a.term_index a.term_coefficient) (left_out (sheets_fit a.parameter.now a.solved.now) (sym c.in_default-selector.ensures.fit))))
 
 pub returns-in_default-take : goal.returns-in_default-take
 returns-in_default-take c = let a = c.args in
-    rw c.pack-in_default-take.ensures (unfit _ _ a.sheet.now (right_out (all_whole a.wiring a.readings a.term_index a.term_coefficient) (right_out (entries_fit a.rows.now a.weights.now) (left_out (fits 8 a.solved.now 6544) (sym c.in_default-take.ensures.fits)))))
+    rw c.pack_answer-in_default-take.ensures (unfit _ _ a.sheet.now (right_out (all_whole a.wiring a.readings a.term_index a.term_coefficient) (right_out (entries_fit a.rows.now a.weights.now) (left_out (fits 8 a.solved.now 6544) (sym c.in_default-take.ensures.fits)))))
 
 pub returns-in_default-take-2 : goal.returns-in_default-take-2
 returns-in_default-take-2 c = let a = c.args in
-    rw c.pack-in_default-take-2.ensures (unfit _ _ a.sheet.now (right_out (all_whole a.wiring a.readings a.term_index a.term_coefficient) (right_out (entries_fit a.rows.now a.weights.now) (right_out (fits 8 a.parameter.now 6544) (sym c.in_default-take-2.ensures.fits)))))
+    rw c.pack_answer-in_default-take-2.ensures (unfit _ _ a.sheet.now (right_out (all_whole a.wiring a.readings a.term_index a.term_coefficient) (right_out (entries_fit a.rows.now a.weights.now) (right_out (fits 8 a.parameter.now 6544) (sym c.in_default-take-2.ensures.fits)))))
 
 pub third_out-requires-clause-cells : goal.third_out-requires-clause-cells
 third_out-requires-clause-cells c = let n = c.cells_for-n.ensures in cut_cells _ n.below n

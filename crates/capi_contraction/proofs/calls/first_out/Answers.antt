@@ -23,11 +23,11 @@ encode-requires c = let a = c.args in
     let h : c.written_words-n.result ≤ length c.contraction_first-answer.new.selection = omega (arith, w, f, c.contraction_first-answer.auto) in
     omega (arith, w, f, cut_count c.written_words-n.result c.contraction_first-answer.new.selection h, c.requires.cells.within)
 
-pub pack-requires : goal.pack-requires
-pack-requires c = let a = c.args in
+pub pack_answer-requires : goal.pack_answer-requires
+pack_answer-requires c = let a = c.args in
     omega (arith, first_count _ _ _ c.requires.one a.selection.now a.cells.now c.requires.cells c.contraction_first-answer.ensures)
 
 pub returns : goal.returns
 returns c = let a = c.args in
     let w = rw c.count.ensures at c.written_words-n.ensures in
-    first_answer _ _ _ c.requires.one a.selection.now a.cells.now c.requires.cells c.contraction_first-answer.ensures c.pack.ensures w c.encode.ensures.out_after
+    first_answer _ _ _ c.requires.one a.selection.now a.cells.now c.requires.cells c.contraction_first-answer.ensures c.pack_answer.ensures w c.encode.ensures.out_after

@@ -4,4 +4,4 @@ use Rattle.decoding.proofs.answer.answered.Goals as goal
 
 pub returns : goal.returns
 unfolding filled_out
-returns c = rw (c.pack.ensures, c.encode.ensures.out_after, c.count.ensures)
+returns c = rw (c.pack.ensures, c.encode.ensures.out_after)

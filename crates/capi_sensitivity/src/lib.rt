@@ -2,7 +2,8 @@
 // slices, for programs in other languages.
 #![tactic(auto)]
 
-ghost use Rattle.std.specs.Prelude.{◌≡◌};
+ghost use Rattle.std.specs.Prelude.{◌≡◌, ◌≤◌, length};
+ghost use Rattle.sequence.specs.Lists.{front};
 ghost use Rattle.sequence.specs.Answers.{number_of, count_of};
 ghost use Rattle.network.specs.Numbers.{lent};
 ghost use Rattle.interface.specs.Codes.{operand_of, parameter_of, mode_of};
@@ -89,8 +90,18 @@ pub extern "C" fn sens_contraction_first(
     note(answer, count)
 }
 
+// A part's words into the front of a sheet that holds them. By a loop: `copy_from_slice` would ask for C's `memmove`, and of C's
+// functions the library asks for `memset` alone.
+fn copy(part: &[f64], sheet: &mut [f64])
+    requires { length part.now ≤ length sheet.old }
+    ensures { sheet.new ≡ front part.now sheet.old }
+{
+    for (i, word) in part.iter().enumerate() {
+        sheet[i] = *word;
+    }
+}
+
 // The right side to be solved: its length, and where `sheet` has room its words.
-#[tactic(auto, unfolding(sequence::specs::Lists::front))]
 #[unsafe(no_mangle)]
 pub extern "C" fn sens_right_side<'a>(
     mode: u32,
@@ -104,7 +115,7 @@ pub extern "C" fn sens_right_side<'a>(
     let part = right_side(mode_asked(mode), count, parameter, selection);
     let n = part.len();
     if n <= sheet.len() {
-        sheet[..n].copy_from_slice(part);
+        copy(part, sheet);
     }
     n
 }

@@ -15,9 +15,10 @@ use Rattle.sequence.specs.Lists.{each, when}
 use Rattle.sequence.specs.Links.{First}
 use Rattle.sequence.specs.declared.Triplet.{Triplet}
 use Rattle.sequence.specs.declared.Sink.{Sink}
-use Rattle.sequence.specs.Sheets.{emit}
+use Rattle.sequence.specs.Sheets.{emit, Sheets, Puts}
 use Rattle.sequence.specs.Sinks.{Gains}
 use Rattle.sequence.proofs.Lists.{each_same}
+use Rattle.sequence.proofs.Sheets as sheets
 use Rattle.sequence.proofs.Sinks.{none, begin, more, done, then}
 use Rattle.sequence.proofs.Links.{scan, walk_begin, walk_more}
 use Rattle.network.specs.declared.Field.{Field}
@@ -107,6 +108,17 @@ module _ (start : Block → ℕ) (R : Field → ℕ → Float) (S : Entry → �
   unfolding emitted
   puts_one s p = rw append-nil p
 
+  -- the plain scan of every index, of those whose key is j, is all turns of a loop
+  module _ (key : ℕ → ℕ) (j : ℕ) (g : ℕ → List Slot) where
+    scanned : (c : ℕ) → out (each c (λ x. when (eqb (key x) j) (g x))) ≡ scan key j (λ x. out (g x)) c
+    scanned c =
+        emitted_each c (λ x. when (eqb (key x) j) (g x)) ∙ each_same c (λ x. out (when (eqb (key x) j) (g x))) (λ x. when (eqb (key x) j) (out (g x))) (λ x q. emitted_when (eqb (key x) j) (g x))
+
+    -- at the end of a walk, whatever sheets it put into
+    pub chain_done : {l c x : ℕ} {T₀ T₁ : Sheets} → x ≤ c → c ≤ x → Puts l (scan key j (λ x. out (g x)) x) T₀ T₁
+        → Puts l (out (each c (λ x. when (eqb (key x) j) (g x)))) T₀ T₁
+    chain_done {l} {c} h k p = rw (scanned c) (sheets.done (λ x. when (eqb (key x) j) (out (g x))) h k p)
+
   -- a walk along the chain of key j is the plain scan of every index: it begins at the head, goes on by next, and ends
   module _ (key : ℕ → ℕ) (j : ℕ) (g : ℕ → List Slot) {S₀ : Sink} where
     pub chain_begin : {c z : ℕ} → First key c j 0 z → Gains (scan key j (λ x. out (g x)) z) S₀ S₀
@@ -116,8 +128,12 @@ module _ (start : Block → ℕ) (R : Field → ℕ → Float) (S : Entry → �
         → Gains (scan key j (λ x. out (g x)) x) S₀ S₁ → Gains (out (g x)) S₁ S₂ → Gains (scan key j (λ x. out (g x)) z) S₀ S₂
     chain_more e f p q = walk_more key j (λ x. out (g x)) e f p q
 
-    pub chain_done : {c x : ℕ} {S₁ : Sink} → x ≤ c → c ≤ x → Gains (scan key j (λ x. out (g x)) x) S₀ S₁
+    pub chain_gained : {c x : ℕ} {S₁ : Sink} → x ≤ c → c ≤ x → Gains (scan key j (λ x. out (g x)) x) S₀ S₁
         → Gains (out (each c (λ x. when (eqb (key x) j) (g x)))) S₀ S₁
-    chain_done {c} h k p =
-        rw (emitted_each c (λ x. when (eqb (key x) j) (g x)), each_same c (λ x. out (when (eqb (key x) j) (g x))) (λ x. when (eqb (key x) j) (out (g x))) (λ x q. emitted_when (eqb (key x) j) (g x)))
-        (done (λ x. when (eqb (key x) j) (out (g x))) h k p)
+    chain_gained h k p = record {
+      puts = chain_done key j g h k p.puts;
+      limit = p.limit;
+      same_rows = p.same_rows;
+      same_cols = p.same_cols;
+      same_values = p.same_values;
+    }

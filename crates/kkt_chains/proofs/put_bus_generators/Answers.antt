@@ -9,7 +9,7 @@ use Rattle.network.specs.Layout.{wire}
 use Rattle.kkt_index.specs.declared.Block.TheVariants.{NuBal, Pg}
 use Rattle.snapping.specs.Expr.{less_unit}
 use Rattle.kkt.specs.Slots.{slot}
-use Rattle.kkt.proofs.Emitted.{puts_one, chain_begin, chain_more, chain_done}
+use Rattle.kkt.proofs.Emitted.{puts_one, chain_begin, chain_more, chain_gained}
 use Rattle.kkt_chains.proofs.put_bus_generators.Goals as goal
 
 pub loop-j-init : goal.loop-j-init
@@ -43,7 +43,7 @@ loop-j-preserved c = let b : c.loop-j.j < c.args.kkt.now.grid.plan.counts.genera
     )
 
 pub returns-clause-puts : goal.returns-clause-puts
-returns-clause-puts c = chain_done _ _ _ (wire c.args.kkt.now.grid.plan.counts c.args.kkt.now.grid.plan.wiring.now GenBus) c.args.i (λ y. slot (Pg, y) (NuBal, c.args.i) less_unit ∷ []) c.loop-j.invariant.2 (omega (arith, c.loop-j-test)) c.loop-j.invariant.0
+returns-clause-puts c = chain_gained _ _ _ (wire c.args.kkt.now.grid.plan.counts c.args.kkt.now.grid.plan.wiring.now GenBus) c.args.i (λ y. slot (Pg, y) (NuBal, c.args.i) less_unit ∷ []) c.loop-j.invariant.2 (omega (arith, c.loop-j-test)) c.loop-j.invariant.0
 
 pub returns-clause-most : goal.returns-clause-most
 returns-clause-most c = omega (arith, c.loop-j.invariant.1, c.loop-j.invariant.2, c.args.kkt.now.grid.plan.readings_laid.few)

@@ -6,7 +6,7 @@ use Rattle.network.specs.Layout.{reading}
 use Rattle.susceptance.specs.Incidence.{end_at}
 use Rattle.solution.specs.Sheet.{solved}
 use Rattle.kkt_index.specs.Index.{start_in}
-use Rattle.kkt.proofs.Emitted.{puts_three, chain_begin, chain_more, chain_done}
+use Rattle.kkt.proofs.Emitted.{puts_three, chain_begin, chain_more, chain_gained}
 use Rattle.kkt_chains.proofs.Ends.{at_end, ends_incident}
 use Rattle.kkt_chains.proofs.put_ends.Goals as goal
 
@@ -47,7 +47,7 @@ loop-end-preserved c = let b : c.loop-end.end < 2 * c.args.kkt.now.grid.plan.cou
     )
 
 pub returns-clause-puts : goal.returns-clause-puts
-returns-clause-puts c = rw (ends_incident c.args.kkt.now.grid.plan.counts c.args.kkt.now.grid.plan.wiring.now c.args.j c.args.kkt.now.grid.plan.counts.branches) at (chain_done (start_in c.args.kkt.now.index) (reading c.args.kkt.now.grid.plan.counts c.args.kkt.now.grid.plan.readings.now) (solved c.args.kkt.now.grid.plan.counts c.args.kkt.now.index.pieces c.args.kkt.now.sheet.now) (end_at c.args.kkt.now.grid.plan.counts c.args.kkt.now.grid.plan.wiring.now) c.args.j (at_end c.args.kkt.now.grid.plan.counts c.args.kkt.now.grid.plan.wiring.now c.args.j) c.loop-end.invariant.2 (omega (arith, c.loop-end-test)) c.loop-end.invariant.0)
+returns-clause-puts c = rw (ends_incident c.args.kkt.now.grid.plan.counts c.args.kkt.now.grid.plan.wiring.now c.args.j c.args.kkt.now.grid.plan.counts.branches) at (chain_gained (start_in c.args.kkt.now.index) (reading c.args.kkt.now.grid.plan.counts c.args.kkt.now.grid.plan.readings.now) (solved c.args.kkt.now.grid.plan.counts c.args.kkt.now.index.pieces c.args.kkt.now.sheet.now) (end_at c.args.kkt.now.grid.plan.counts c.args.kkt.now.grid.plan.wiring.now) c.args.j (at_end c.args.kkt.now.grid.plan.counts c.args.kkt.now.grid.plan.wiring.now c.args.j) c.loop-end.invariant.2 (omega (arith, c.loop-end-test)) c.loop-end.invariant.0)
 
 pub returns-clause-most : goal.returns-clause-most
 returns-clause-most c = omega (arith, c.loop-end.invariant.1, c.loop-end.invariant.2, c.args.kkt.now.grid.plan.readings_laid.few)

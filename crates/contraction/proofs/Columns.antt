@@ -1,5 +1,5 @@
 -- Columns lie within their sheet, and an element's entries within the slices.
--- Main results: `inside`, `column_inside`, `column_long`, `part_stored`, `front_whole`, `starts_none`, `starts_more`, `entered_run`, `row_is`, `column_is`, `contracted_long`, `selection_long`. Assumes nothing.
+-- Main results: `inside`, `column_inside`, `column_long`, `part_stored`, `front_whole`, `starts_none`, `starts_more`, `item_is`, `entered_run`, `row_is`, `column_is`, `contracted_long`, `selection_long`. Assumes nothing.
 use mathlib.Core.Path.{◌≡◌, refl, sym, ap, ◌∙◌}
 use mathlib.Core.List.{List, [], ◌++◌, append-nil, append_assoc}
 use Prim.Native.Nat.{ℕ, zero, suc, ◌+◌, ◌-◌, ◌*◌, ◌≤◌, ◌<◌}
@@ -85,6 +85,10 @@ pub starts_more : (S : Selector) (o : ℕ) → entry_start S (o + 1) ≡ entry_s
 unfolding entry_start
 starts_more S o = before_more (entries_at S) o
 
+-- an item of a part of a list that leaves out none in front
+pub item_is : (xs : List ℕ) (m n o : ℕ) → m ≡ 0 → o < n → get_or (take n (drop m xs)) o 0 ≡ get_or xs o 0
+item_is xs m n o e h = rw (e, get_or-take n xs o 0 h)
+
 -- element o's entries
 pub entered_run : {S : Selector} {dim : ℕ} → Entered S dim → (o : ℕ) → o < elements S → {from n : ℕ} → from ≡ entry_start S o → n ≡ entries_at S o → Run S.rows S.weights from n dim
 unfolding entry_start
@@ -116,20 +120,20 @@ selection_cut {rows} {weights} {from} {n} r h =
     rw (cut_long from n rows h.in_rows) (turns_same _ _ nought n (λ t i x. rw (cut_at from n t rows 0 i, cut_at from n t weights nan i)))
 
 -- the words of element o, by the terms that are cut out for it
-pub row_is : (S : Selector) (dim columns : ℕ) (solved : List Float) (o : ℕ) {from d k : ℕ} {rows : List ℕ} {weights new : List Float} → Entered S dim → o < elements S
-    → from ≡ entry_start S o → d ≡ dim → k ≡ columns → rows ≡ take (entries_at S o) (drop from S.rows) → weights ≡ take (entries_at S o) (drop from S.weights)
+pub row_is : (S : Selector) (dim columns : ℕ) (solved : List Float) (o : ℕ) {from n d k : ℕ} {rows : List ℕ} {weights new : List Float} → Entered S dim → o < elements S
+    → from ≡ entry_start S o → d ≡ dim → k ≡ columns → rows ≡ take n (drop from S.rows) → weights ≡ take n (drop from S.weights) → n ≡ entries_at S o
     → new ≡ made (λ c. forward_word S.sign rows weights 0 (length rows) (column d solved c)) k → new ≡ contracted_row Forward S dim columns [] solved o
 unfolding contracted_row
-row_is S dim columns solved o h l p q k r w e =
-    e ∙ rw (r, w, p, q, k) (made_same _ _ columns (λ c i. forward_cut S.sign (column dim solved c) (entered_run h o l refl refl)))
+row_is S dim columns solved o h l p q k r w m e =
+    e ∙ rw (r, w, m, p, q, k) (made_same _ _ columns (λ c i. forward_cut S.sign (column dim solved c) (entered_run h o l refl refl)))
 
 -- and likewise its column of the selection sheet
-pub column_is : (S : Selector) (dim o : ℕ) {from k : ℕ} {rows : List ℕ} {weights new : List Float} → Entered S dim → o < elements S
-    → from ≡ entry_start S o → k ≡ dim → rows ≡ take (entries_at S o) (drop from S.rows) → weights ≡ take (entries_at S o) (drop from S.weights)
+pub column_is : (S : Selector) (dim o : ℕ) {from n k : ℕ} {rows : List ℕ} {weights new : List Float} → Entered S dim → o < elements S
+    → from ≡ entry_start S o → k ≡ dim → rows ≡ take n (drop from S.rows) → weights ≡ take n (drop from S.weights) → n ≡ entries_at S o
     → new ≡ made (selection_word rows weights 0 (length rows)) k → new ≡ selection_column S dim o
 unfolding selection_column
-column_is S dim o h l p k r w e =
-    e ∙ rw (r, w, p, k) (made_same _ _ dim (λ c i. selection_cut c (entered_run h o l refl refl)))
+column_is S dim o h l p k r w m e =
+    e ∙ rw (r, w, m, p, k) (made_same _ _ dim (λ c i. selection_cut c (entered_run h o l refl refl)))
 
 -- ---- how many words there are
 

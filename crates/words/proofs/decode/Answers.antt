@@ -12,7 +12,7 @@ unfolding made front
 loop-i-init g c = refl
 
 pub loop-i-preserved : goal.loop-i-preserved
-loop-i-preserved g c = made_turn (g.T.FromBytes.nth c.args.bytes.now) _ _ _ _ c.get.ensures (omega arith) c.loop-i.invariant
+loop-i-preserved g c = made_turn (g.T.FromBytes.nth c.args.bytes.now) c.loop-i.i _ _ _ c.get.ensures (omega arith) c.loop-i.invariant
 
 pub returns : goal.returns
 returns g c = let e : c.loop-i.i ≡ length c.args.into.now = omega arith in
